@@ -32,15 +32,15 @@ tagged form Three = refl
 pub pair_found : (queue : Queue) (before : ℕ) (bytes : List ℕ) (dword turns : ℕ) → 11 ≤ length bytes → get_or bytes 0 0 ≡ push_tag queue →
     get_or bytes 1 0 ≡ 0 → get_or bytes 6 0 ≡ 5 →
     number_at (drop 2 bytes) ≡ Some dword → number_at (drop 7 bytes) ≡ Some turns → 1 ≤ turns → before + turns ≤ most_turns →
-    IsPair queue before bytes dword turns
-pair_found queue before [] dword turns long tag status turn first second some few = absurd (omega (arith, long))
-pair_found queue before (t ∷ []) dword turns long tag status turn first second some few = absurd (omega (arith, long))
-pair_found queue before (t ∷ s ∷ []) dword turns long tag status turn first second some few = absurd (omega (arith, long))
-pair_found queue before (t ∷ s ∷ a ∷ []) dword turns long tag status turn first second some few = absurd (omega (arith, long))
-pair_found queue before (t ∷ s ∷ a ∷ b ∷ []) dword turns long tag status turn first second some few = absurd (omega (arith, long))
-pair_found queue before (t ∷ s ∷ a ∷ b ∷ c ∷ []) dword turns long tag status turn first second some few = absurd (omega (arith, long))
-pair_found queue before (t ∷ s ∷ a ∷ b ∷ c ∷ d ∷ []) dword turns long tag status turn first second some few = absurd (omega (arith, long))
-pair_found queue before (t ∷ s ∷ a ∷ b ∷ c ∷ d ∷ u ∷ rest) dword turns long tag status turn first second some few =
+    dword < 2 ^ 32 → IsPair queue before bytes dword turns
+pair_found queue before [] dword turns long tag status turn first second some few fits = absurd (omega (arith, long))
+pair_found queue before (t ∷ []) dword turns long tag status turn first second some few fits = absurd (omega (arith, long))
+pair_found queue before (t ∷ s ∷ []) dword turns long tag status turn first second some few fits = absurd (omega (arith, long))
+pair_found queue before (t ∷ s ∷ a ∷ []) dword turns long tag status turn first second some few fits = absurd (omega (arith, long))
+pair_found queue before (t ∷ s ∷ a ∷ b ∷ []) dword turns long tag status turn first second some few fits = absurd (omega (arith, long))
+pair_found queue before (t ∷ s ∷ a ∷ b ∷ c ∷ []) dword turns long tag status turn first second some few fits = absurd (omega (arith, long))
+pair_found queue before (t ∷ s ∷ a ∷ b ∷ c ∷ d ∷ []) dword turns long tag status turn first second some few fits = absurd (omega (arith, long))
+pair_found queue before (t ∷ s ∷ a ∷ b ∷ c ∷ d ∷ u ∷ rest) dword turns long tag status turn first second some few fits =
     let all : nat_le (before + turns) most_turns ≡ true = grind (arith, few) in
     record {
       push = λ form.
@@ -54,6 +54,7 @@ pair_found queue before (t ∷ s ∷ a ∷ b ∷ c ∷ d ∷ u ∷ rest) dword t
           ∙ ap (λ is. turns_if is turns) all;
       whole = long;
       some = some;
+      fits = fits;
     }
 
 -- ---- and others behind it

@@ -1,5 +1,5 @@
 -- Pairs of records: a data push with the status PixelsValid, and turns behind it.
-use Rattle.std.specs.Prelude.{◌≡◌, ℕ, ◌+◌, ◌*◌, ◌<◌, ◌≤◌, ◌⊎◌, List, [], ◌∷◌, ◌++◌, length, take, drop}
+use Rattle.std.specs.Prelude.{◌≡◌, ℕ, ◌+◌, ◌*◌, ◌^◌, ◌<◌, ◌≤◌, ◌⊎◌, List, [], ◌∷◌, ◌++◌, length, take, drop}
 use Rattle.fifo_model.specs.declared.Queue.{Queue}
 use Rattle.fifo_model.specs.declared.Queue.TheVariants.{One, Two, Three}
 use Rattle.machine_model.specs.PlainEntries.{dwords_of, plain_entry, turns_behind}
@@ -27,6 +27,7 @@ pub record IsPair (queue : Queue) (before : ℕ) (bytes : List ℕ) (dword count
   pub turned : (form : Form) → record_at form before (drop 6 bytes) ≡ Whole (Turns count) 5
   pub whole : 11 ≤ length bytes
   pub some : 1 ≤ count
+  pub fits : dword < 2 ^ 32
 
 -- and none does
 abbrev pub NoPair : Queue → ℕ → List ℕ → Type 0

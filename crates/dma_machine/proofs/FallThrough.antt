@@ -51,7 +51,7 @@ none_taken : (held : QueueState) → front_valid held ≡ 0 → (held.taken ≡ 
 none_taken held none (inl e) = e
 none_taken held none (inr less) = omega (arith, none, less)
 
-unequal : (a b : ℕ) → a < b → (a == b) ≡ false
+pub unequal : (a b : ℕ) → a < b → (a == b) ≡ false
 unequal a b less = grind (arith, less)
 
 pub empty_queue : (held : QueueState) → IsQueue held → is_none (front held) ≡ true → IsEmpty held
@@ -83,17 +83,17 @@ four_taken entry held valid is =
 
 -- ---- what is asked
 
-asks_some : (rest : ℕ) → 4 ≤ rest → (rest == 0) ≡ false
+pub asks_some : (rest : ℕ) → 4 ≤ rest → (rest == 0) ≡ false
 asks_some rest some = grind (arith, some)
 
 -- so the instruction is not done
-not_done : (q : Queue) (ds : Demands) → ((demand_on q ds).rest == 0) ≡ false → is_done ds ≡ false
+pub not_done : (q : Queue) (ds : Demands) → ((demand_on q ds).rest == 0) ≡ false → is_done ds ≡ false
 not_done One ds e = ap (λ none. none && (ds.two.rest == 0) && (ds.three.rest == 0)) e
 not_done Two ds e = ap (λ none. none && (ds.three.rest == 0)) (and_right (ds.one.rest == 0) (ds.two.rest == 0) e)
 not_done Three ds e = and_right ((ds.one.rest == 0) && (ds.two.rest == 0)) (ds.three.rest == 0) e
 
 -- and the queue is the lowest one that is served
-lowest : (q : Queue) (ds : Demands) (m : State) (held : QueueState) →
+pub lowest : (q : Queue) (ds : Demands) (m : State) (held : QueueState) →
     none_before q ds m ≡ true → is_served q ds (record m { queues = with_queue_state q held m.queues }) ≡ true →
     lowest_served ds (record m { queues = with_queue_state q held m.queues }) ≡ Some q
 lowest One ds m held before e =

@@ -2,6 +2,7 @@ pub mod Storing
 pub mod Asked
 pub mod Bursts
 pub mod Counting
+pub mod Rooms
 pub mod Machines
 pub mod WholeTakes
 pub mod FallThrough
@@ -12,4 +13,5 @@ pub mod Spelled
 pub mod Noting
 pub mod Retiring
 pub mod StillSeen
+pub mod WholeBursts
 pub mod PlainRuns

@@ -16,18 +16,20 @@ use Rattle.machine_model.proofs.ProgramStays.{program-step}
 use Rattle.machine_model.proofs.Safe.{IsSafe-step}
 use Rattle.machine_model.proofs.BeforeTurns.{word-ends, pc-is_word, idle-data, running-RunsAt, target-Reaches}
 use Rattle.dma_machine.specs.Counts.{acted, with_turns}
-use Rattle.dma_machine.specs.Facts.{IsMachine}
+use Rattle.dma_machine.specs.Facts.{HaveRoom, IsMachine}
 use Rattle.dma_machine.specs.Looks.{CanGoOn}
 use Rattle.dma_machine.specs.Needs.{CanBegin, CanExecute, CanFetch, CanWork}
 use Rattle.dma_machine.proofs.Counting.{acted-turns, turn-acted}
+use Rattle.dma_machine.proofs.Rooms.{HaveRoom-step, WritesFit}
 
-pub IsMachine-step : (s : Step) (m after : State) → after ≡ step s m → IsStep s → IsMachine m → IsMachine after
-IsMachine-step s m after made n h =
+pub IsMachine-step : (s : Step) (m after : State) → after ≡ step s m → IsStep s → WritesFit s → IsMachine m → IsMachine after
+IsMachine-step s m after made n fits h =
     subst IsMachine (sym made)
     (record {
       made = subst IsProgram (sym (program-step s m)) h.made;
       sound = subst IsSound (sym (program-step s m)) h.sound;
       safe = IsSafe-step s m n h.sound h.safe;
+      room = HaveRoom-step s m fits h.room;
     })
 
 -- whatever the count of turns
@@ -43,12 +45,13 @@ IsMachine-turns t m h =
             no_error = h.safe.no_error;
             orderly = record { job = h.safe.orderly.job; queues = h.safe.orderly.queues; triggered = h.safe.orderly.triggered };
           };
+      room = h.room;
     }
 
 pub IsMachine-acted : (m after : State) → after ≡ acted m → IsMachine m → IsMachine after
 IsMachine-acted m after made h =
     let same : with_turns m.turns (turn m) ≡ acted m = ap (with_turns m.turns) (turn-acted m) ∙ sym (acted-turns m.turns m) in
-    subst IsMachine (same ∙ sym made) (IsMachine-turns m.turns (turn m) (IsMachine-step Turn m (turn m) refl tt h))
+    subst IsMachine (same ∙ sym made) (IsMachine-turns m.turns (turn m) (IsMachine-step Turn m (turn m) refl tt tt h))
 
 -- pc is the address of a word
 pub IsMachine-pc : (m : State) → IsMachine m → m.pc < 2 ^ 32
@@ -58,8 +61,8 @@ IsMachine-pc m h =
 
 -- with another program that can be made and is sound
 pub IsMachine-program : (program : RiscProgram) (m : State) → IsProgram program → IsSound program → CanGoOn program m →
-    IsMachine (with_program program m)
-IsMachine-program program m made sound h = record { made = made; sound = sound; safe = h.safe }
+    HaveRoom m.trigger m.queues → IsMachine (with_program program m)
+IsMachine-program program m made sound h room = record { made = made; sound = sound; safe = h.safe; room = room }
 
 module _ (m : State) (h : IsMachine m) where
   can_begin : (skipping : Skipping) (instr : Instr) (count : ℕ) → m.job ≡ Idle → m.skipping ≡ skipping →

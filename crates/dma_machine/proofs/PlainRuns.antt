@@ -1,130 +1,52 @@
--- Plain entries that fall through one after the other are stored by one run of bytes.
-use Rattle.std.proofs.Common.{◌≡◌, ℕ, zero, suc, ◌+◌, ◌*◌, ◌-◌, ◌<◌, ◌≤◌, ◌^◌, Bool, true, false, not, List, [], ◌∷◌, ◌++◌, length}
-use Rattle.std.proofs.Common.{replicate, Option, Some, None, refl, sym, ap, subst, ◌∙◌, arith, if◌then◌else◌, ◌==◌}
-use Rattle.std.specs.Prelude.{◌&&◌, ◌||◌, is_none, nat_le}
+-- Plain entries that are pushed to an empty queue are taken burst by burst, and the last of them wait.
+use Rattle.std.proofs.Common.{◌≡◌, ℕ, zero, suc, ◌+◌, ◌*◌, ◌-◌, ◌<◌, ◌≤◌, ◌^◌, inl, inr, Bool, true, false, not, List, [], ◌∷◌, ◌++◌}
+use Rattle.std.proofs.Common.{◌/◌, ◌%◌, get_or, length, take, drop, replicate, refl, sym, ap, ap₂, subst, ◌∙◌, arith, if◌then◌else◌, ◌==◌}
+use Rattle.std.specs.Prelude.{◌&&◌, ◌||◌, is_none, nat_le, nat_lt}
+use Rattle.std.specs.Int.{from_le_bytes, w32}
 use Rattle.std.specs.List.{list_any}
-use Rattle.std.specs.Option.{option_map}
 use Rattle.std.proofs.lemmas.Bool.{and_parts, not-true}
-use Rattle.page_table.specs.Blocks.{Block, stored_run}
+use Rattle.std.proofs.lemmas.List.{append-nil, append_assoc, drop-drop, get_or-drop, length-append, length-drop, length-take-le, take-append-drop}
+use Rattle.std.proofs.lemmas.Nat.{from_le_bytes-to_le_bytes_4}
+use Rattle.std.proofs.Math.Nat.{suc-mul, div-mul-le_self, mod-eq-sub-div-mul, mod-lt, mul_assoc, mul_comm}
+use Rattle.std.proofs.Math.Seq.{drop-append_seam, take-append_seam}
 use Rattle.risc_word.specs.declared.Instr.{Instr}
 use Rattle.risc_word.specs.Parts.{instr_off}
 use Rattle.sync_status.specs.Statuses.{kind_of}
 use Rattle.fifo_model.specs.declared.Entry.{Entry}
 use Rattle.fifo_model.specs.declared.Queue.{Queue}
 use Rattle.fifo_model.specs.declared.Queue.TheVariants.{One, Two, Three}
-use Rattle.fifo_model.specs.Queues.{QueueState, IsFifo, front, is_ready, lane_bytes, more, queue_state, wakes}
+use Rattle.fifo_model.specs.Queues.{QueueState, Queues, IsFifo, entered, front, is_full, is_ready, lane_bytes, more, overrun, queue_state}
+use Rattle.fifo_model.specs.Queues.{wakes, with_queue_state}
 use Rattle.fifo_model.proofs.ChangesKeepQueues.{IsQueue-queue_state}
+use Rattle.fifo_model.proofs.QueueStates.{with_queue_state-same, with_queue_state-twice}
 use Rattle.machine_model.specs.declared.Demand.{Demand}
 use Rattle.machine_model.specs.declared.Demands.{Demands}
 use Rattle.machine_model.specs.declared.Job.{Job}
 use Rattle.machine_model.specs.declared.Job.TheVariants.{Idle, Running, Waiting}
+use Rattle.machine_model.specs.declared.Seen.{Seen}
 use Rattle.machine_model.specs.Paths.{RiscProgram}
+use Rattle.machine_model.specs.PlainEntries.{HaveTurns, dwords_of, plain_entry, plain_steps, turns_behind}
 use Rattle.machine_model.specs.States.{State}
 use Rattle.machine_model.specs.Seen.{seen}
-use Rattle.machine_model.specs.Steps.{Push, Turn, push, run, step, with_program}
-use Rattle.machine_model.specs.Turns.{turn, Store, demand_less, demand_on, is_served, stored_all, stores_at, with_demand}
+use Rattle.machine_model.specs.Steps.{Push, Turn, push, push_if, run, step, with_fbus_if, with_program}
+use Rattle.machine_model.specs.Turns.{demand_less, demand_on, is_served, turn, with_demand}
 use Rattle.machine_model.proofs.Runs.{run-append}
 use Rattle.dma_machine.specs.declared.engine.Phase.{Phase}
 use Rattle.dma_machine.specs.declared.engine.Phase.TheVariants as phase
 use Rattle.dma_machine.specs.declared.engine.Wait.{Wait}
 use Rattle.dma_machine.specs.Views.{job_of}
 use Rattle.dma_machine.specs.Counts.{acted, acted_times, with_turns}
-use Rattle.dma_machine.specs.Facts.{IsMachine}
-use Rattle.dma_machine.specs.FallThrough.{MovesWhole, fallen_through, none_before, put_down}
-use Rattle.machine_model.specs.PlainEntries.{ArePlain, HaveTurns, dwords_of, plain_entry, plain_steps, turns_behind}
-use Rattle.dma_machine.specs.Plain.{AreTaken, asked_of_all, lets_plain, plain_room, room_in, whole_entries}
+use Rattle.dma_machine.specs.Facts.{HaveRoom, IsMachine}
+use Rattle.dma_machine.specs.FallThrough.{MovesWhole, moved_whole, none_before, put_down}
+use Rattle.dma_machine.specs.Plain.{AreDwords, AreRun, AreTaken, CompletesBurst, all_pushed, asked_of_all, lets_plain, plain_room, room_in}
+use Rattle.dma_machine.specs.Plain.{whole_entries}
 use Rattle.dma_machine.specs.Stills.{is_still, none_served, works_still}
-use Rattle.dma_machine.specs.WholeTakes.{takes_whole}
 use Rattle.dma_machine.proofs.Counting.{acted-turns, turn-acted}
-use Rattle.dma_machine.proofs.FallThrough.{Falls, IsEmpty, empty_queue, entry_came, entry_falls, entry_seen}
+use Rattle.dma_machine.proofs.FallThrough.{IsEmpty, empty_queue, unequal}
 use Rattle.dma_machine.proofs.Machines.{IsMachine-step}
 use Rattle.dma_machine.proofs.Standing.{is_still-turns, still_acted}
-use Rattle.dma_machine.proofs.Storing.{all_stored}
 use Rattle.dma_machine.proofs.Turns.{run_counted, still_times}
-
--- ---- what is asked of a queue
-
-asked_now : (q : Queue) (d : Demand) (ds : Demands) → demand_on q (with_demand q d ds) ≡ d
-asked_now One d ds = refl
-asked_now Two d ds = refl
-asked_now Three d ds = refl
-
-asked_last : (q : Queue) (early late : Demand) (ds : Demands) → with_demand q late (with_demand q early ds) ≡ with_demand q late ds
-asked_last One early late ds = refl
-asked_last Two early late ds = refl
-asked_last Three early late ds = refl
-
-address_less : (a b : ℕ) (address : Option ℕ) →
-    option_map (λ at. at + b) (option_map (λ at. at + a) address) ≡ option_map (λ at. at + (a + b)) address
-address_less a b None = refl
-address_less a b (Some address) = let e : address + a + b ≡ address + (a + b) = omega arith in ap Some e
-
-less_less : (a b : ℕ) (d : Demand) → demand_less b (demand_less a d) ≡ demand_less (a + b) d
-less_less a b d =
-    let rest : d.rest - a - b ≡ d.rest - (a + b) = omega arith in
-    ap (λ n. record { rest = n; address = option_map (λ at. at + b) (option_map (λ at. at + a) d.address); needs_sol = false }) rest
-    ∙ ap (λ at. record { rest = d.rest - (a + b); address = at; needs_sol = false }) (address_less a b d.address)
-
--- after two takes
-asked_after : (q : Queue) (a b : ℕ) (ds : Demands) →
-    with_demand q (demand_less b (demand_on q (with_demand q (demand_less a (demand_on q ds)) ds)))
-    (with_demand q (demand_less a (demand_on q ds)) ds)
-    ≡ with_demand q (demand_less (a + b) (demand_on q ds)) ds
-asked_after q a b ds =
-    ap (λ d. with_demand q (demand_less b d) (with_demand q (demand_less a (demand_on q ds)) ds))
-    (asked_now q (demand_less a (demand_on q ds)) ds)
-    ∙ asked_last q (demand_less a (demand_on q ds)) (demand_less b (demand_less a (demand_on q ds))) ds
-    ∙ ap (λ d. with_demand q d ds) (less_less a b (demand_on q ds))
-
-all_less : (q : Queue) (n : ℕ) (ds : Demands) → n ≤ (demand_on q ds).rest →
-    asked_of_all (with_demand q (demand_less n (demand_on q ds)) ds) ≡ asked_of_all ds - n
-all_less One n ds le = omega (arith, le)
-all_less Two n ds le = omega (arith, le)
-all_less Three n ds le = omega (arith, le)
-
-none_asked : (a b c : ℕ) → 0 < a + b + c → (a == 0 && b == 0 && c == 0) ≡ false
-none_asked (suc a) b c some = let e : (suc a == 0) ≡ false = grind arith in ap (λ x. x && b == 0 && c == 0) e
-none_asked zero (suc b) c some = let e : (suc b == 0) ≡ false = grind arith in ap (λ x. x && c == 0) e
-none_asked zero zero (suc c) some = grind arith
-none_asked zero zero zero some = absurd (omega (arith, some))
-
--- ---- bytes that are stored
-
--- those of all lanes
-abbrev put_at : List Block → Option ℕ → List ℕ → List Block
-put_at memory None bytes = memory
-put_at memory (Some address) bytes = stored_run memory address bytes
-
-abbrev count_at : Option ℕ → List ℕ → ℕ
-count_at None bytes = 0
-count_at (Some address) bytes = length bytes
-
-put_all : (memory : List Block) (off : ℕ) (address : Option ℕ) (bytes : List ℕ) → off ≡ 0 →
-    stored_all memory (stores_at address off 0 bytes) ≡ put_at memory address bytes
-put_all memory off None bytes e = refl
-put_all memory off (Some address) bytes e =
-    ap (λ n. stored_all memory (stores_at (Some address) n 0 bytes)) e ∙ (all_stored memory 0 address bytes).stores
-
-count_all : (memory : List Block) (off : ℕ) (address : Option ℕ) (bytes : List ℕ) → off ≡ 0 →
-    length (stores_at address off 0 bytes) ≡ count_at address bytes
-count_all memory off None bytes e = refl
-count_all memory off (Some address) bytes e =
-    ap (λ n. length (stores_at (Some address) n 0 bytes)) e ∙ (all_stored memory 0 address bytes).many
-
--- behind the four of an entry
-put_next : (memory : List Block) (address : Option ℕ) (dword : ℕ) (bytes : List ℕ) →
-    put_at (put_at memory address (lane_bytes dword)) (option_map (λ at. at + 4) address) bytes
-    ≡ put_at memory address (lane_bytes dword ++ bytes)
-put_next memory None dword bytes = refl
-put_next memory (Some address) dword bytes =
-    let e : address + 4 ≡ address + 1 + 1 + 1 + 1 = omega arith in
-    ap (λ at. stored_run (put_at memory (Some address) (lane_bytes dword)) at bytes) e
-
-count_next : (moved : ℕ) (address : Option ℕ) (dword : ℕ) (bytes : List ℕ) →
-    more (more moved (count_at address (lane_bytes dword))) (count_at (option_map (λ at. at + 4) address) bytes)
-    ≡ more moved (count_at address (lane_bytes dword ++ bytes))
-count_next moved None dword bytes = omega arith
-count_next moved (Some address) dword bytes = omega arith
+use Rattle.dma_machine.proofs.WholeBursts.{asked_now, burst_acted, burst_seen, entries_of, holding, is_held, length_entries, put_both, with_entries}
 
 -- ---- a machine that takes plain entries
 
@@ -132,9 +54,9 @@ pub record Takes (q : Queue) (count : ℕ) (instr : Instr) (ds : Demands) (m : S
   pub on : m.fifo_on ≡ true
   pub runs : m.risc_on ≡ true
   pub job : m.job ≡ Running instr ds
-  pub fifo : IsFifo m.queues
-  pub one : m.trigger ≡ 1
-  pub none : is_none (front (queue_state q m.queues)) ≡ true
+  pub empty : IsEmpty (queue_state q m.queues)
+  pub some : 1 ≤ m.trigger
+  pub room : m.trigger ≤ (queue_state q m.queues).capacity
   pub sol : (demand_on q ds).needs_sol ≡ false
   pub off : instr_off instr ≡ 0
   pub still : none_served ds m ≡ true
@@ -148,26 +70,6 @@ not_both : (a b : Bool) → b ≡ false → not (a && b) ≡ true
 not_both true b e = ap not e
 not_both false b e = refl
 
--- of a queue that is empty nothing is served, whatever is asked of it
-not_ready : (held : QueueState) (trigger : ℕ) → trigger ≡ 1 → held.entries ≡ [] → is_ready trigger held ≡ false
-not_ready held trigger one none =
-    ap (λ n. is_ready n held) one
-    ∙ ap (λ entries. nat_le 1 (length entries) || list_any (λ (entry : Entry). wakes (kind_of entry.status)) entries) none
-
-still_none : (q : Queue) (d : Demand) (ds : Demands) (m : State) → is_ready m.trigger (queue_state q m.queues) ≡ false →
-    none_served ds m ≡ true → none_served (with_demand q d ds) m ≡ true
-still_none One d ds m empty none =
-    let three = and_parts (not (is_served One ds m) && not (is_served Two ds m)) (not (is_served Three ds m)) none in
-    let two = and_parts (not (is_served One ds m)) (not (is_served Two ds m)) three.0 in
-    both _ _ (both _ _ (not_both (not (d.rest == 0)) _ empty) two.1) three.1
-still_none Two d ds m empty none =
-    let three = and_parts (not (is_served One ds m) && not (is_served Two ds m)) (not (is_served Three ds m)) none in
-    let two = and_parts (not (is_served One ds m)) (not (is_served Two ds m)) three.0 in
-    both _ _ (both _ _ two.0 (not_both (not (d.rest == 0)) _ empty)) three.1
-still_none Three d ds m empty none =
-    let three = and_parts (not (is_served One ds m) && not (is_served Two ds m)) (not (is_served Three ds m)) none in
-    both _ _ three.0 (not_both (not (d.rest == 0)) _ empty)
-
 before : (q : Queue) (ds : Demands) (m : State) → none_served ds m ≡ true → none_before q ds m ≡ true
 before One ds m none = refl
 before Two ds m none =
@@ -175,183 +77,451 @@ before Two ds m none =
     (and_parts (not (is_served One ds m)) (not (is_served Two ds m)) three.0).0
 before Three ds m none = (and_parts (not (is_served One ds m) && not (is_served Two ds m)) (not (is_served Three ds m)) none).0
 
-takes_four : (sol : Bool) (rest : ℕ) → sol ≡ false → 4 ≤ rest → takes_whole (kind_of 0) sol 0 rest ≡ true
-takes_four true rest e le = cc
-takes_four false rest e le = grind (arith, le)
+-- of one queue nothing is served whatever is asked of it and whatever it holds, where it isn't ready
+none_served-holding : (q : Queue) (d : Demand) (held : QueueState) (ds : Demands) (m : State) → is_ready m.trigger held ≡ false →
+    none_served ds m ≡ true → none_served (with_demand q d ds) (record m { queues = with_queue_state q held m.queues }) ≡ true
+none_served-holding One d held ds m unready none =
+    let three = and_parts (not (is_served One ds m) && not (is_served Two ds m)) (not (is_served Three ds m)) none in
+    let two = and_parts (not (is_served One ds m)) (not (is_served Two ds m)) three.0 in
+    both _ _ (both _ _ (not_both (not (d.rest == 0)) _ unready) two.1) three.1
+none_served-holding Two d held ds m unready none =
+    let three = and_parts (not (is_served One ds m) && not (is_served Two ds m)) (not (is_served Three ds m)) none in
+    let two = and_parts (not (is_served One ds m)) (not (is_served Two ds m)) three.0 in
+    both _ _ (both _ _ two.0 (not_both (not (d.rest == 0)) _ unready)) three.1
+none_served-holding Three d held ds m unready none =
+    let three = and_parts (not (is_served One ds m) && not (is_served Two ds m)) (not (is_served Three ds m)) none in
+    both _ _ three.0 (not_both (not (d.rest == 0)) _ unready)
 
--- ---- the first of them
+same_demand : (q : Queue) (ds : Demands) → with_demand q (demand_on q ds) ds ≡ ds
+same_demand One ds = refl
+same_demand Two ds = refl
+same_demand Three ds = refl
 
-module _ (q : Queue) (dword count : ℕ) (m : State) (instr : Instr) (ds : Demands) (h : Takes q (suc count) instr ds m) where
-  pub falls : Falls q (plain_entry dword) m ds
-  falls =
-      record {
-        on = h.on;
-        runs = h.runs;
-        one = h.one;
-        none = h.none;
-        takes = takes_four _ _ h.sol (let rest = h.rest in omega (arith, rest));
-        before = before q ds m h.still;
-      }
+all_less : (q : Queue) (n : ℕ) (ds : Demands) → n ≤ (demand_on q ds).rest →
+    asked_of_all (with_demand q (demand_less n (demand_on q ds)) ds) ≡ asked_of_all ds - n
+all_less One n ds le = omega (arith, le)
+all_less Two n ds le = omega (arith, le)
+all_less Three n ds le = omega (arith, le)
 
-  abbrev pub asked : Demands
-  asked = with_demand q (demand_less 4 (demand_on q ds)) ds
+none_asked : (a b c : ℕ) → 0 < a + b + c → (a == 0 && b == 0 && c == 0) ≡ false
+none_asked (suc a) b c some = let e : (suc a == 0) ≡ false = grind arith in ap (λ x. x && b == 0 && c == 0) e
+none_asked zero (suc b) c some = let e : (suc b == 0) ≡ false = grind arith in ap (λ x. x && c == 0) e
+none_asked zero zero (suc c) some = grind arith
+none_asked zero zero zero some = absurd (omega (arith, some))
 
-  abbrev pub fallen : State
-  fallen = fallen_through q instr ds (plain_entry dword) m
+-- ---- a queue that holds some of them
 
-  -- the machine takes the others
-  pub others : (turns : ℕ) → Takes q count instr asked (with_turns turns fallen)
-  others turns =
-      let empty : IsEmpty (queue_state q m.queues) = empty_queue (queue_state q m.queues) (IsQueue-queue_state q m.queues h.fifo) h.none in
-      let now = asked_now q (demand_less 4 (demand_on q ds)) ds in
-      let left = ap (λ (d : Demand). d.rest) now in
-      let rest = h.rest in
+entries_of-append : (first later : List (ℕ × ℕ)) → entries_of (first ++ later) ≡ entries_of first ++ entries_of later
+entries_of-append [] later = refl
+entries_of-append (entry ∷ first) later = ap (λ rest. plain_entry entry.0 ∷ rest) (entries_of-append first later)
+
+none_wakes : (entries : List (ℕ × ℕ)) → list_any (λ (e : Entry). wakes (kind_of e.status)) (entries_of entries) ≡ false
+none_wakes [] = refl
+none_wakes (entry ∷ entries) = none_wakes entries
+
+too_few : (trigger count : ℕ) → count < trigger → nat_le trigger count ≡ false
+too_few trigger count less = grind (arith, less)
+
+not_ready : (entries : List (ℕ × ℕ)) (held : QueueState) (trigger : ℕ) → length entries < trigger →
+    is_ready trigger (with_entries (entries_of entries) held) ≡ false
+not_ready entries held trigger few =
+    ap (λ n. nat_le trigger n || list_any (λ (e : Entry). wakes (kind_of e.status)) (entries_of entries)) (length_entries entries)
+    ∙ ap (λ b. b || list_any (λ (e : Entry). wakes (kind_of e.status)) (entries_of entries)) (too_few trigger (length entries) few)
+    ∙ none_wakes entries
+
+-- where it holds none it is as it was
+pub holding_none : (q : Queue) (m : State) → IsEmpty (queue_state q m.queues) → holding q [] m ≡ m
+holding_none q m empty =
+    let held : QueueState = queue_state q m.queues in
+    ap₂ (λ entries taken. record m { queues = with_queue_state q (record held { entries = entries; taken = taken }) m.queues })
+    (sym empty.entries) (sym empty.taken)
+    ∙ ap (λ queues. record m { queues = queues }) (with_queue_state-same q m.queues)
+
+pub push_one : (q : Queue) (held : List (ℕ × ℕ)) (entry : ℕ × ℕ) (m : State) → m.fifo_on ≡ true →
+    length held < (queue_state q m.queues).capacity →
+    push q (plain_entry entry.0) (holding q held m) ≡ holding q (held ++ entry ∷ []) m
+push_one q held entry m on room =
+    let before : State = holding q held m in
+    let at : QueueState = queue_state q m.queues in
+    let early : QueueState = with_entries (entries_of held) at in
+    let free : is_full (queue_state q before.queues) ≡ false =
+    ap is_full (is_held q held m)
+    ∙ (let same = length_entries held in unequal (length (entries_of held)) at.capacity (omega (arith, same, room))) in
+    ap (λ is_on. push_if is_on q (plain_entry entry.0) before) on
+    ∙ ap (λ full. record (with_fbus_if full before) {
+      queues = if full then (with_queue_state q (overrun (queue_state q before.queues)) before.queues)
+          else (with_queue_state q (entered (plain_entry entry.0) (queue_state q before.queues)) before.queues);
+    }) free
+    ∙ ap (λ (now : QueueState). record m { queues = with_queue_state q (entered (plain_entry entry.0) now) before.queues }) (is_held q held m)
+    ∙ ap (λ queues. record m { queues = queues }) (with_queue_state-twice q early (entered (plain_entry entry.0) early) m.queues)
+    ∙ ap (λ entries. record m { queues = with_queue_state q (with_entries entries at) m.queues }) (sym (entries_of-append held (entry ∷ [])))
+
+-- pushed one after the other
+pub all_held : (q : Queue) (entries held : List (ℕ × ℕ)) (m : State) → m.fifo_on ≡ true →
+    length held + length entries ≤ (queue_state q m.queues).capacity →
+    all_pushed q entries (holding q held m) ≡ holding q (held ++ entries) m
+all_held q [] held m on room = ap (λ all. holding q all m) (sym (append-nil held))
+all_held q (entry ∷ entries) held m on room =
+    let longer = length-append held (entry ∷ []) in
+    ap (all_pushed q entries) (push_one q held entry m on (omega (arith, room)))
+    ∙ all_held q entries (held ++ entry ∷ []) m on (omega (arith, longer, room))
+    ∙ ap (λ all. holding q all m) (append_assoc held (entry ∷ []) entries)
+
+-- ---- one of them, and the turns behind it
+
+module _ (q : Queue) (count : ℕ) (m : State) (instr : Instr) (ds : Demands) (h : Takes q count instr ds m) where
+  -- the queue isn't ready
+  pub holding_still : (held : List (ℕ × ℕ)) → length held < m.trigger → is_still (holding q held m) ≡ true
+  holding_still held few =
       let all = h.all in
-      let four : 4 ≤ (demand_on q ds).rest = omega (arith, rest) in
-      let less = all_less q 4 ds four in
+      let unready = not_ready held (queue_state q m.queues) m.trigger few in
+      ap (λ on. if on then works_still m.job (holding q held m) else true) h.runs
+      ∙ ap (λ job. works_still job (holding q held m)) h.job
+      ∙ both _ _ (ap not (none_asked ds.one.rest ds.two.rest ds.three.rest (omega (arith, all))))
+      (ap (λ asked. none_served asked (holding q held m)) (sym (same_demand q ds))
+      ∙ none_served-holding q (demand_on q ds) (with_entries (entries_of held) (queue_state q m.queues)) ds m unready h.still)
+
+  pub turns_count : (held : List (ℕ × ℕ)) (turns : ℕ) → length held < m.trigger → m.turns ≤ 2 ^ 64 - 1 →
+      run (holding q held m) (replicate turns Turn) ≡ holding q held (with_turns (more m.turns turns) m)
+  turns_count held turns few counted =
+      let now : State = with_turns (more m.turns turns) (holding q held m) in
+      run_counted turns (holding q held m) counted
+      ∙ still_times turns now
+      (still_acted now (is_still-turns (more m.turns turns) (holding q held m) ∙ holding_still held few))
+
+  -- it is taken with those that the queue holds
+  module _ (all : List (ℕ × ℕ)) (within : length all ≤ count) where
+    abbrev less : Demands
+    less = with_demand q (demand_less (length all * 4) (demand_on q ds)) ds
+
+    abbrev stored : State
+    stored = put_down q (length all * 4) instr ds 0 (dwords_of all) m
+
+    pub all_acted : length all ≡ m.trigger → acted (holding q all m) ≡ stored
+    all_acted many = by all many refl
+      where
+        by : (list : List (ℕ × ℕ)) → length list ≡ m.trigger → list ≡ all →
+            acted (holding q list m) ≡ put_down q (length list * 4) instr ds 0 (dwords_of list) m
+        by [] none is = let some = h.some in absurd (omega (arith, some, none))
+        by (entry ∷ entries) same is =
+            let same_length = ap length is in
+            let rest = h.rest in
+            burst_acted q entry entries m instr ds h.runs h.job h.sol same (omega (arith, same_length, within, rest))
+            (before q ds m h.still) h.off
+            ∙ holding_none q (put_down q (length (entry ∷ entries) * 4) instr ds 0 (dwords_of (entry ∷ entries)) m) h.empty
+
+    pub all_seen : length all ≡ m.trigger → MovesWhole q (seen (holding q all m))
+    all_seen many = by all many refl
+      where
+        by : (list : List (ℕ × ℕ)) → length list ≡ m.trigger → list ≡ all → MovesWhole q (seen (holding q list m))
+        by [] none is = let some = h.some in absurd (omega (arith, some, none))
+        by (entry ∷ entries) same is =
+            let same_length = ap length is in
+            let rest = h.rest in
+            let seen_is =
+            burst_seen q entry entries m instr ds h.runs h.job h.sol same (omega (arith, same_length, within, rest)) (before q ds m h.still) in
+            seen_is ∙ ap (moved_whole q) (sym (ap (λ (s : Seen). s.at) seen_is))
+
+    -- the machine takes those that are left
+    pub others : (left turns : ℕ) → length all + left ≡ count → Takes q left instr less (with_turns turns stored)
+    others left turns sum =
+        let now = asked_now q (demand_less (length all * 4) (demand_on q ds)) ds in
+        let rest_now = ap (λ (d : Demand). d.rest) now in
+        let rest = h.rest in
+        let every = h.all in
+        let taken : length all * 4 ≤ (demand_on q ds).rest = omega (arith, rest, within) in
+        let fewer = all_less q (length all * 4) ds taken in
+        let some = h.some in
+        record {
+          on = h.on;
+          runs = h.runs;
+          job = refl;
+          empty = record { entries = h.empty.entries; taken = h.empty.taken; room = h.empty.room };
+          some = h.some;
+          room = h.room;
+          sol = ap (λ (d : Demand). d.needs_sol) now;
+          off = h.off;
+          still =
+              ap (λ queues. none_served less (record m { queues = queues })) (sym (with_queue_state-same q m.queues))
+              ∙ none_served-holding q (demand_less (length all * 4) (demand_on q ds)) (queue_state q m.queues) ds m
+              (ap (is_ready m.trigger) (empty_entries (queue_state q m.queues) h.empty)
+              ∙ not_ready [] (queue_state q m.queues) m.trigger (omega (arith, some))) h.still;
+          rest = omega (arith, rest_now, rest, sum);
+          all = omega (arith, fewer, every, taken, sum);
+        }
+      where
+        empty_entries : (held : QueueState) → IsEmpty held → held ≡ with_entries [] held
+        empty_entries held empty = ap₂ (λ entries taken. record held { entries = entries; taken = taken }) empty.entries empty.taken
+
+  -- the same machine, whatever the count of turns
+  pub counted : (turns : ℕ) → Takes q count instr ds (with_turns turns m)
+  counted turns =
       record {
         on = h.on;
         runs = h.runs;
-        job = refl;
-        fifo = h.fifo;
-        one = h.one;
-        none = h.none;
-        sol = ap (λ (d : Demand). d.needs_sol) now;
+        job = h.job;
+        empty = record { entries = h.empty.entries; taken = h.empty.taken; room = h.empty.room };
+        some = h.some;
+        room = h.room;
+        sol = h.sol;
         off = h.off;
-        still =
-            still_none q (demand_less 4 (demand_on q ds)) ds m (not_ready (queue_state q m.queues) m.trigger h.one empty.entries) h.still;
-        rest = omega (arith, left, rest);
-        all = omega (arith, less, all, four);
+        still = h.still;
+        rest = h.rest;
+        all = h.all;
       }
 
-  pub fallen_still : is_still fallen ≡ true
-  fallen_still =
-      let left = others 0 in
-      let some = left.all in
-      ap (λ on. if on then works_still fallen.job fallen else true) h.runs
-      ∙ both _ _ (ap not (none_asked asked.one.rest asked.two.rest asked.three.rest (omega (arith, some)))) left.still
+-- an entry that doesn't make its queue ready
+module _ (q : Queue) (count : ℕ) (m : State) (instr : Instr) (ds : Demands) (h : Takes q count instr ds m) (held : List (ℕ × ℕ))
+    (entry : ℕ × ℕ) (counts : m.turns ≤ 2 ^ 64 - 1) where
+  abbrev pushed : State
+  pushed = push q (plain_entry entry.0) (holding q held m)
 
-  -- with the turns behind it
-  pub first_run : (turns : ℕ) → m.turns ≤ 2 ^ 64 - 1 → 1 ≤ turns →
-      run (push q (plain_entry dword) m) (replicate turns Turn) ≡ with_turns (more m.turns turns) fallen
-  first_run zero few some = absurd (omega (arith, some))
-  first_run (suc turns) few some =
-      let pushed : State = push q (plain_entry dword) m in
-      let count : ℕ = more m.turns (suc turns) in
-      let same : pushed.turns ≡ m.turns = ap (λ (s : State). s.turns) (entry_came q (plain_entry dword) m instr ds h.fifo h.job falls) in
-      let still : is_still (with_turns count fallen) ≡ true = is_still-turns count fallen ∙ fallen_still in
-      run_counted (suc turns) pushed (omega (arith, same, few))
-      ∙ ap (λ n. acted_times turns (acted (with_turns (more n (suc turns)) pushed))) same
-      ∙ ap (acted_times turns)
-      (acted-turns count pushed ∙ ap (with_turns count) (entry_falls q (plain_entry dword) m instr ds h.fifo h.job falls))
-      ∙ still_times turns (with_turns count fallen) (still_acted (with_turns count fallen) still)
+  abbrev longer : List (ℕ × ℕ)
+  longer = held ++ entry ∷ []
 
-  -- the first turn takes it, and those behind it do nothing
-  pub first_seen : MovesWhole q (seen (push q (plain_entry dword) m))
-  first_seen = entry_seen q (plain_entry dword) m instr ds h.fifo h.job falls
+  pub is_pushed : length held < m.trigger → pushed ≡ holding q longer m
+  is_pushed few = let room = h.room in push_one q held entry m h.on (omega (arith, room, few))
 
-  pub turned_still : is_still (turn (push q (plain_entry dword) m)) ≡ true
-  turned_still =
-      let pushed : State = push q (plain_entry dword) m in
-      ap is_still
-      (turn-acted pushed ∙ ap (with_turns (more pushed.turns 1)) (entry_falls q (plain_entry dword) m instr ds h.fifo h.job falls))
-      ∙ is_still-turns (more pushed.turns 1) fallen
-      ∙ fallen_still
+  pub waits : length longer < m.trigger → run pushed (replicate entry.1 Turn) ≡ holding q longer (with_turns (more m.turns entry.1) m)
+  waits few =
+      let more_than = length-append held (entry ∷ []) in
+      ap (λ s. run s (replicate entry.1 Turn)) (is_pushed (omega (arith, few, more_than))) ∙ turns_count q count m instr ds h longer entry.1 few counts
+
+  pub waits_still : length longer < m.trigger → is_still pushed ≡ true
+  waits_still few =
+      let more_than = length-append held (entry ∷ []) in
+      ap is_still (is_pushed (omega (arith, few, more_than))) ∙ holding_still q count m instr ds h longer few
+
+  -- one that does
+  module _ (many : length longer ≡ m.trigger) (within : length longer ≤ count) where
+    abbrev taken : State
+    taken = put_down q (length longer * 4) instr ds 0 (dwords_of longer) m
+
+    becomes : pushed ≡ holding q longer m
+    becomes = let more_than = length-append held (entry ∷ []) in is_pushed (omega (arith, many, more_than))
+
+    taken_still : is_still taken ≡ true
+    taken_still = by count refl
+      where
+        by : (all : ℕ) → all ≡ count → is_still taken ≡ true
+        by all is =
+            let left = others q count m instr ds h longer within (count - length longer) m.turns (omega (arith, within)) in
+            let some = left.some in
+            ap is_still (sym (holding_none q taken (record {
+              entries = h.empty.entries;
+              taken = h.empty.taken;
+              room = h.empty.room;
+            }))) ∙ holding_still q (count - length longer) (with_turns m.turns taken) instr _ left [] (omega (arith, some))
+
+    pub completes : (turns : ℕ) → turns ≡ entry.1 → 1 ≤ turns →
+        run pushed (replicate turns Turn) ≡ with_turns (more m.turns turns) taken
+    completes zero is some = absurd (omega (arith, some))
+    completes (suc turns) is some =
+        let all : ℕ = more m.turns (suc turns) in
+        let still : is_still (with_turns all taken) ≡ true = is_still-turns all taken ∙ taken_still in
+        ap (λ s. run s (replicate (suc turns) Turn)) becomes
+        ∙ run_counted (suc turns) (holding q longer m) counts
+        ∙ ap (acted_times turns)
+        (acted-turns all (holding q longer m) ∙ ap (with_turns all) (all_acted q count m instr ds h longer within many))
+        ∙ still_times turns (with_turns all taken) (still_acted (with_turns all taken) still)
+
+    pub completes_burst : CompletesBurst q pushed
+    completes_burst =
+        record {
+          moves = subst (λ (s : State). MovesWhole q (seen s)) (sym becomes) (all_seen q count m instr ds h longer within many);
+          still =
+              ap (λ s. is_still (turn s)) becomes
+              ∙ ap is_still (turn-acted (holding q longer m)
+              ∙ ap (with_turns (more m.turns 1)) (all_acted q count m instr ds h longer within many))
+              ∙ is_still-turns (more m.turns 1) taken
+              ∙ taken_still;
+        }
 
 -- ---- all of them
 
--- their bytes are stored, and no longer asked for
-abbrev all_put : Queue → Instr → Demands → List (ℕ × ℕ) → State → State
-all_put q instr ds entries m =
-    with_turns (more m.turns (turns_behind entries)) (put_down q (length entries * 4) instr ds 0 (dwords_of entries) m)
+pub dwords_both : (first later : List (ℕ × ℕ)) → dwords_of (first ++ later) ≡ dwords_of first ++ dwords_of later
+dwords_both [] later = refl
+dwords_both (entry ∷ first) later = ap (λ bytes. lane_bytes entry.0 ++ bytes) (dwords_both first later)
 
-module _ (q : Queue) (instr : Instr) (ds : Demands) (m : State) (off : instr_off instr ≡ 0) where
-  abbrev made : Demands → List Block → ℕ → ℕ → State
-  made left memory moved turns = record m { job = Running instr left; memory = memory; moved = moved; turns = turns }
+turns_both : (first later : List (ℕ × ℕ)) → turns_behind (first ++ later) ≡ turns_behind first + turns_behind later
+turns_both [] later = omega arith
+turns_both (entry ∷ first) later = let rest = turns_both first later in omega (arith, rest)
 
-  abbrev address : Option ℕ
-  address = (demand_on q ds).address
+steps_both : (q : Queue) (first later : List (ℕ × ℕ)) → plain_steps q (first ++ later) ≡ plain_steps q first ++ plain_steps q later
+steps_both q [] later = refl
+steps_both q (entry ∷ first) later =
+    ap (λ steps. (Push q (plain_entry entry.0) ∷ replicate entry.1 Turn) ++ steps) (steps_both q first later)
+    ∙ sym (append_assoc (Push q (plain_entry entry.0) ∷ replicate entry.1 Turn) (plain_steps q first) (plain_steps q later))
 
-  -- an entry, and others behind it
-  put_both : (dword turns : ℕ) (count later : ℕ) (bytes : List ℕ) →
-      with_turns (more (more m.turns turns) later)
-      (put_down q count instr (with_demand q (demand_less 4 (demand_on q ds)) ds) 0 bytes
-      (with_turns (more m.turns turns) (fallen_through q instr ds (plain_entry dword) m)))
-      ≡ with_turns (more m.turns (turns + later)) (put_down q (4 + count) instr ds 0 (lane_bytes dword ++ bytes) m)
-  put_both dword turns count later bytes =
-      let less : Demands = with_demand q (demand_less 4 (demand_on q ds)) ds in
-      let first : List Store = stores_at address (instr_off instr) 0 (lane_bytes dword) in
-      let next : List Store = stores_at (demand_on q less).address (instr_off instr) 0 bytes in
-      let whole : List Store = stores_at address (instr_off instr) 0 (lane_bytes dword ++ bytes) in
-      let now = ap (λ (d : Demand). d.address) (asked_now q (demand_less 4 (demand_on q ds)) ds) in
-      let memory : stored_all (stored_all m.memory first) next ≡ stored_all m.memory whole =
-      put_all (stored_all m.memory first) (instr_off instr) (demand_on q less).address bytes off
-      ∙ ap (λ at. put_at (stored_all m.memory first) at bytes) now
-      ∙ ap (λ before. put_at before (option_map (λ at. at + 4) address) bytes)
-      (put_all m.memory (instr_off instr) address (lane_bytes dword) off)
-      ∙ put_next m.memory address dword bytes
-      ∙ sym (put_all m.memory (instr_off instr) address (lane_bytes dword ++ bytes) off) in
-      let moved : more (more m.moved (length first)) (length next) ≡ more m.moved (length whole) =
-      ap (λ n. more (more m.moved (length first)) n)
-      (count_all m.memory (instr_off instr) (demand_on q less).address bytes off ∙ ap (λ at. count_at at bytes) now)
-      ∙ ap (λ n. more (more m.moved n) (count_at (option_map (λ at. at + 4) address) bytes))
-      (count_all m.memory (instr_off instr) address (lane_bytes dword) off)
-      ∙ count_next m.moved address dword bytes
-      ∙ ap (more m.moved) (sym (count_all m.memory (instr_off instr) address (lane_bytes dword ++ bytes) off)) in
-      let counted : more (more m.turns turns) later ≡ more m.turns (turns + later) = omega arith in
-      ap (λ left. made left (stored_all (stored_all m.memory first) next) (more (more m.moved (length first)) (length next))
-      (more (more m.turns turns) later)) (asked_after q 4 count ds)
-      ∙ ap (λ memory. made (with_demand q (demand_less (4 + count) (demand_on q ds)) ds) memory
-      (more (more m.moved (length first)) (length next)) (more (more m.turns turns) later)) memory
-      ∙ ap (λ n. made (with_demand q (demand_less (4 + count) (demand_on q ds)) ds) (stored_all m.memory whole) n
-      (more (more m.turns turns) later)) moved
-      ∙ ap (λ n. made (with_demand q (demand_less (4 + count) (demand_on q ds)) ds) (stored_all m.memory whole)
-      (more m.moved (length whole)) n) counted
+have_both : (first later : List (ℕ × ℕ)) → HaveTurns (first ++ later) → HaveTurns first × HaveTurns later
+have_both [] later have = (tt, have)
+have_both (entry ∷ first) later have = let rest = have_both first later have.1 in ((have.0, rest.0), rest.1)
 
--- an entry alone is as it fell through
-alone : (q : Queue) (instr : Instr) (ds : Demands) (m : State) (dword turns : ℕ) →
-    with_turns (more m.turns turns) (fallen_through q instr ds (plain_entry dword) m)
-    ≡ with_turns (more m.turns (turns + 0)) (put_down q 4 instr ds 0 (lane_bytes dword) m)
-alone q instr ds m dword turns =
-    let e : turns ≡ turns + 0 = omega arith in
-    ap (λ n. with_turns (more m.turns n) (put_down q 4 instr ds 0 (lane_bytes dword) m)) e
+-- behind none that wait
+behind_none : (q : Queue) (count : ℕ) (instr : Instr) (ds : Demands) (m : State) → Takes q count instr ds m → Takes q (0 + count) instr ds m
+behind_none q count instr ds m h = let e : count ≡ 0 + count = omega arith in subst (λ n. Takes q n instr ds m) e h
 
-all_run : (q : Queue) (instr : Instr) (ds : Demands) (entry : ℕ × ℕ) (entries : List (ℕ × ℕ)) (m : State) →
-    Takes q (length (entry ∷ entries)) instr ds m → m.turns ≤ 2 ^ 64 - 1 →
-    HaveTurns (entry ∷ entries) →
-    run m (plain_steps q (entry ∷ entries)) ≡ all_put q instr ds (entry ∷ entries) m
-all_run q instr ds entry [] m h few each =
-    run-append (push q (plain_entry entry.0) m) (replicate entry.1 Turn) []
-    ∙ first_run q entry.0 0 m instr ds h entry.1 few each.0
-    ∙ alone q instr ds m entry.0 entry.1
-all_run q instr ds entry (next ∷ entries) m h few each =
+-- fewer than make the queue ready wait in it
+fill : (q : Queue) (instr : Instr) (ds : Demands) (entries held : List (ℕ × ℕ)) (m : State) →
+    Takes q (length held + length entries) instr ds m →
+    length held + length entries < m.trigger → m.turns ≤ 2 ^ 64 - 1 → HaveTurns entries →
+    run (holding q held m) (plain_steps q entries) ≡ holding q (held ++ entries) (with_turns (more m.turns (turns_behind entries)) m)
+fill q instr ds [] held m h few counts have =
+    let same : m.turns ≡ more m.turns 0 = omega (arith, counts) in
+    ap₂ (λ all turns. holding q all (with_turns turns m)) (sym (append-nil held)) same
+fill q instr ds (entry ∷ entries) held m h few counts have =
+    let longer : List (ℕ × ℕ) = held ++ entry ∷ [] in
+    let many : length longer + length entries ≡ length held + length (entry ∷ entries) =
+    (let sum = length-append held (entry ∷ []) in omega (arith, sum)) in
     let turns : ℕ = more m.turns entry.1 in
-    let still_few : turns ≤ 2 ^ 64 - 1 = omega arith in
-    let after : State = with_turns turns (fallen_through q instr ds (plain_entry entry.0) m) in
-    let less : Demands = with_demand q (demand_less 4 (demand_on q ds)) ds in
-    let all : 4 + length (next ∷ entries) * 4 ≡ length (entry ∷ next ∷ entries) * 4 = omega arith in
-    run-append (push q (plain_entry entry.0) m) (replicate entry.1 Turn) (plain_steps q (next ∷ entries))
-    ∙ ap (λ s. run s (plain_steps q (next ∷ entries))) (first_run q entry.0 (suc (length entries)) m instr ds h entry.1 few each.0)
-    ∙ all_run q instr less next entries after (others q entry.0 (suc (length entries)) m instr ds h turns) still_few each.1
-    ∙ put_both q instr ds m h.off entry.0 entry.1 (length (next ∷ entries) * 4) (turns_behind (next ∷ entries)) (dwords_of (next ∷ entries))
-    ∙ ap (λ n.
-    with_turns (more m.turns (turns_behind (entry ∷ next ∷ entries))) (put_down q n instr ds 0 (dwords_of (entry ∷ next ∷ entries)) m)) all
+    let next : Takes q (length longer + length entries) instr ds m = subst (λ n. Takes q n instr ds m) (sym many) h in
+    let sum : more turns (turns_behind entries) ≡ more m.turns (turns_behind (entry ∷ entries)) = omega arith in
+    run-append (push q (plain_entry entry.0) (holding q held m)) (replicate entry.1 Turn) (plain_steps q entries)
+    ∙ ap (λ s. run s (plain_steps q entries))
+    (waits q _ m instr ds h held entry counts (omega (arith, many, few)))
+    ∙ fill q instr ds entries longer (with_turns turns m) (counted q _ m instr ds next turns) (omega (arith, many, few)) (omega arith) have.1
+    ∙ ap₂ (λ all n. holding q all (with_turns n m)) (append_assoc held (entry ∷ []) entries) sum
 
--- and each is seen to be taken
-all_taken : (q : Queue) (instr : Instr) (ds : Demands) (entries : List (ℕ × ℕ)) (m : State) → Takes q (length entries) instr ds m →
-    m.turns ≤ 2 ^ 64 - 1 → HaveTurns entries → AreTaken q entries m
-all_taken q instr ds [] m h few each = tt
-all_taken q instr ds (entry ∷ entries) m h few each =
-    let still_few : more m.turns entry.1 ≤ 2 ^ 64 - 1 = omega arith in (
-      first_seen q entry.0 (length entries) m instr ds h,
-      turned_still q entry.0 (length entries) m instr ds h,
-      subst
-          (AreTaken q entries)
-          (sym (first_run q entry.0 (length entries) m instr ds h entry.1 few each.0))
-          (all_taken q instr (asked q entry.0 (length entries) m instr ds h) entries
-          (with_turns (more m.turns entry.1) (fallen q entry.0 (length entries) m instr ds h))
-          (others q entry.0 (length entries) m instr ds h (more m.turns entry.1)) still_few each.1),
-    )
+-- as many as make it ready are taken
+finish : (q : Queue) (instr : Instr) (ds : Demands) (entry : ℕ × ℕ) (entries held : List (ℕ × ℕ)) (m : State) (count : ℕ) →
+    Takes q count instr ds m → length held + length (entry ∷ entries) ≡ m.trigger → m.trigger ≤ count →
+    m.turns ≤ 2 ^ 64 - 1 → HaveTurns (entry ∷ entries) →
+    run (holding q held m) (plain_steps q (entry ∷ entries))
+    ≡ with_turns (more m.turns (turns_behind (entry ∷ entries)))
+    (put_down q (m.trigger * 4) instr ds 0 (dwords_of (held ++ entry ∷ entries)) m)
+finish q instr ds entry [] held m count h many within counts have =
+    let longer : List (ℕ × ℕ) = held ++ entry ∷ [] in
+    let sum = length-append held (entry ∷ []) in
+    let full : length longer ≡ m.trigger = omega (arith, sum, many) in
+    let turns : more m.turns entry.1 ≡ more m.turns (turns_behind (entry ∷ [])) = omega arith in
+    run-append (push q (plain_entry entry.0) (holding q held m)) (replicate entry.1 Turn) []
+    ∙ completes q count m instr ds h held entry counts full (omega (arith, full, within)) entry.1 refl have.0
+    ∙ ap₂ (λ n four. with_turns n (put_down q (four * 4) instr ds 0 (dwords_of longer) m)) turns full
+finish q instr ds entry (next ∷ entries) held m count h many within counts have =
+    let longer : List (ℕ × ℕ) = held ++ entry ∷ [] in
+    let sum = length-append held (entry ∷ []) in
+    let turns : ℕ = more m.turns entry.1 in
+    let all : more turns (turns_behind (next ∷ entries)) ≡ more m.turns (turns_behind (entry ∷ next ∷ entries)) = omega arith in
+    run-append (push q (plain_entry entry.0) (holding q held m)) (replicate entry.1 Turn) (plain_steps q (next ∷ entries))
+    ∙ ap (λ s. run s (plain_steps q (next ∷ entries)))
+    (waits q count m instr ds h held entry counts (omega (arith, sum, many)))
+    ∙ finish q instr ds next entries longer (with_turns turns m) count (counted q count m instr ds h turns) (omega (arith, sum, many)) within
+    (omega arith) have.1
+    ∙ ap₂ (λ n (list : List (ℕ × ℕ)). with_turns n (put_down q (m.trigger * 4) instr ds 0 (dwords_of list) m)) all
+    (append_assoc held (entry ∷ []) (next ∷ entries))
+
+-- one burst, out of a queue that is empty before it
+one_burst : (q : Queue) (instr : Instr) (ds : Demands) (entries : List (ℕ × ℕ)) (m : State) (count : ℕ) → Takes q count instr ds m →
+    length entries ≡ m.trigger → m.trigger ≤ count → m.turns ≤ 2 ^ 64 - 1 → HaveTurns entries →
+    run m (plain_steps q entries)
+    ≡ with_turns (more m.turns (turns_behind entries)) (put_down q (length entries * 4) instr ds 0 (dwords_of entries) m)
+one_burst q instr ds [] m count h many within counts have = let some = h.some in absurd (omega (arith, some, many))
+one_burst q instr ds (entry ∷ entries) m count h many within counts have =
+    ap (λ s. run s (plain_steps q (entry ∷ entries))) (sym (holding_none q m h.empty))
+    ∙ finish q instr ds entry entries [] m count h (omega (arith, many)) within counts have
+    ∙ ap (λ n. with_turns (more m.turns (turns_behind (entry ∷ entries))) (put_down q (n * 4) instr ds 0 (dwords_of (entry ∷ entries)) m))
+    (sym many)
+
+pub length_dwords : (entries : List (ℕ × ℕ)) → length (dwords_of entries) ≡ length entries * 4
+length_dwords [] = refl
+length_dwords (entry ∷ entries) = let rest = length_dwords entries in omega (arith, rest)
+
+-- several bursts
+module _ (q : Queue) (instr : Instr) where
+  all_bursts : (bursts : ℕ) (ds : Demands) (entries : List (ℕ × ℕ)) (m : State) (count : ℕ) → Takes q count instr ds m →
+      length entries ≡ suc bursts * m.trigger → length entries ≤ count → m.turns ≤ 2 ^ 64 - 1 → HaveTurns entries →
+      run m (plain_steps q entries)
+      ≡ with_turns (more m.turns (turns_behind entries)) (put_down q (length entries * 4) instr ds 0 (dwords_of entries) m)
+  all_bursts zero ds entries m count h many within counts have =
+      one_burst q instr ds entries m count h (omega (arith, many)) (omega (arith, many, within)) counts have
+  all_bursts (suc bursts) ds entries m count h many within counts have =
+      let first : List (ℕ × ℕ) = take m.trigger entries in
+      let later : List (ℕ × ℕ) = drop m.trigger entries in
+      let parted = take-append-drop m.trigger entries in
+      let product : suc (suc bursts) * m.trigger ≡ suc bursts * m.trigger + m.trigger = suc-mul (suc bursts) m.trigger in
+      let first_many : length first ≡ m.trigger = length-take-le m.trigger entries (omega (arith, many, product)) in
+      let later_many : length later ≡ suc bursts * m.trigger = length-drop m.trigger entries ∙ omega (arith, many, product) in
+      let have_parts = have_both first later (subst HaveTurns (sym parted) have) in
+      let turns : ℕ = more m.turns (turns_behind first) in
+      let less : Demands = with_demand q (demand_less (length first * 4) (demand_on q ds)) ds in
+      let after : State = with_turns turns (put_down q (length first * 4) instr ds 0 (dwords_of first) m) in
+      let left = others q count m instr ds h first (omega (arith, first_many, many, within, product)) (count - length first) turns
+      (omega (arith, first_many, many, within, product)) in
+      let sum : more turns (turns_behind later) ≡ more m.turns (turns_behind entries) =
+      (let all = turns_both first later in let same = ap turns_behind parted in omega (arith, all, same)) in
+      let bytes : dwords_of first ++ dwords_of later ≡ dwords_of entries = sym (dwords_both first later) ∙ ap dwords_of parted in
+      let all_many : length first * 4 + length later * 4 ≡ length entries * 4 =
+      (let all = length-append first later in let same = ap length parted in omega (arith, all, same)) in
+      ap (λ list. run m (plain_steps q list)) (sym parted)
+      ∙ ap (run m) (steps_both q first later)
+      ∙ run-append m (plain_steps q first) (plain_steps q later)
+      ∙ ap (λ s. run s (plain_steps q later))
+      (one_burst q instr ds first m count h first_many (omega (arith, many, within, product)) counts have_parts.0)
+      ∙ all_bursts bursts less later after (count - length first) left later_many (omega (arith, later_many, first_many, many, within, product))
+      (omega arith) have_parts.1
+      ∙ ap (with_turns (more turns (turns_behind later)))
+      (put_both q instr ds m h.off (dwords_of first) (dwords_of later) (length first * 4) (length later * 4) (sym (length_dwords first)))
+      ∙ ap (λ n. with_turns n (put_down q (length first * 4 + length later * 4) instr ds 0 (dwords_of first ++ dwords_of later) m)) sum
+      ∙ ap₂ (λ n list. with_turns (more m.turns (turns_behind entries)) (put_down q n instr ds 0 list m)) all_many bytes
+
+-- each is seen to wait or to complete a burst
+all_taken : (q : Queue) (instr : Instr) (entries held : List (ℕ × ℕ)) (ds : Demands) (m : State) →
+    Takes q (length held + length entries) instr ds m → length held < m.trigger → m.turns ≤ 2 ^ 64 - 1 → HaveTurns entries →
+    AreTaken (nat_le m.trigger (length held + length entries)) q entries (holding q held m)
+all_taken q instr [] held ds m h few counts have = too_few m.trigger (length held + 0) (omega (arith, few))
+all_taken q instr (entry ∷ entries) held ds m h few counts have =
+    let longer : List (ℕ × ℕ) = held ++ entry ∷ [] in
+    let sum = length-append held (entry ∷ []) in
+    let many : length longer + length entries ≡ length held + length (entry ∷ entries) = omega (arith, sum) in
+    let turns : ℕ = more m.turns entry.1 in
+    let some = h.some in
+    let none : 0 + length entries ≡ length entries = omega arith in
+    by_full (length longer == m.trigger) refl sum many
+    (λ fewer. all_taken q instr entries longer ds (with_turns turns m)
+    (counted q _ m instr ds (subst (λ n. Takes q n instr ds m) (sym many) h) turns) fewer (omega arith) have.1)
+    (λ within. subst (λ n. AreTaken (nat_le m.trigger n) q entries
+    (holding q [] (with_turns turns (put_down q (length longer * 4) instr ds 0 (dwords_of longer) m)))) none
+    (all_taken q instr entries []
+    (with_demand q (demand_less (length longer * 4) (demand_on q ds)) ds)
+    (with_turns turns (put_down q (length longer * 4) instr ds 0 (dwords_of longer) m))
+    (behind_none q _ instr _ _ (others q _ m instr ds h longer within (length entries) turns many)) (omega (arith, some)) (omega arith)
+    have.1))
+  where
+    by_full : (full : Bool) → (length (held ++ entry ∷ []) == m.trigger) ≡ full → length (held ++ entry ∷ []) ≡ length held + 1 →
+        length (held ++ entry ∷ []) + length entries ≡ length held + length (entry ∷ entries) →
+        (length (held ++ entry ∷ []) < m.trigger →
+        AreTaken (nat_le m.trigger (length (held ++ entry ∷ []) + length entries)) q entries
+        (holding q (held ++ entry ∷ []) (with_turns (more m.turns entry.1) m))) →
+        (length (held ++ entry ∷ []) ≤ length held + length (entry ∷ entries) →
+        AreTaken (nat_le m.trigger (length entries)) q entries
+        (holding q [] (with_turns (more m.turns entry.1)
+        (put_down q (length (held ++ entry ∷ []) * 4) instr ds 0 (dwords_of (held ++ entry ∷ [])) m)))) →
+        AreTaken (nat_le m.trigger (length held + length (entry ∷ entries))) q (entry ∷ entries) (holding q held m)
+    by_full false is sum many waiting taken =
+        let other : length (held ++ entry ∷ []) < m.trigger = grind (arith, few, sum, is) in
+        inl (
+          waits_still q _ m instr ds h held entry counts other,
+          subst
+              (λ n. AreTaken (nat_le m.trigger n) q entries
+              (run (push q (plain_entry entry.0) (holding q held m)) (replicate entry.1 Turn))) many
+              (subst (AreTaken (nat_le m.trigger (length (held ++ entry ∷ []) + length entries)) q entries)
+              (sym (waits q _ m instr ds h held entry counts other)) (waiting other)),
+        )
+    by_full true is sum many waiting taken =
+        let full : length (held ++ entry ∷ []) ≡ m.trigger = grind (arith, is) in
+        let within : length (held ++ entry ∷ []) ≤ length held + length (entry ∷ entries) = omega (arith, many) in
+        let enough : m.trigger ≤ length held + length (entry ∷ entries) = omega (arith, full, within) in
+        let after : State =
+        with_turns (more m.turns entry.1) (put_down q (length (held ++ entry ∷ []) * 4) instr ds 0 (dwords_of (held ++ entry ∷ [])) m) in
+        inr (
+          grind (arith, enough),
+          completes_burst q _ m instr ds h held entry counts full within,
+          nat_le m.trigger (length entries),
+          subst (AreTaken (nat_le m.trigger (length entries)) q entries)
+              (holding_none q after (record { entries = h.empty.entries; taken = h.empty.taken; room = h.empty.room })
+              ∙ sym (completes q _ m instr ds h held entry counts full within entry.1 refl have.0))
+              (taken within),
+        )
 
 -- ---- where there is room for them
 
@@ -363,35 +533,44 @@ chosen : (is : Bool) (most count : ℕ) → 0 < count → count ≤ (if is then 
 chosen true most count some le = record { true_is = refl; within = le }
 chosen false most count some le = absurd (omega (arith, some, le))
 
+capacity_of : (q : Queue) (trigger : ℕ) (queues : Queues) → HaveRoom trigger queues → trigger ≤ (queue_state q queues).capacity
+capacity_of One trigger queues h = let most = h.most in let one = h.one in omega (arith, most, one)
+capacity_of Two trigger queues h = let most = h.most in let two = h.two in omega (arith, most, two)
+capacity_of Three trigger queues h = let most = h.most in let three = h.three in omega (arith, most, three)
+
 pub takes_room : (q : Queue) (count : ℕ) (m : State) (instr : Instr) (ds : Demands) → m.job ≡ Running instr ds → IsFifo m.queues →
-    0 < count → count ≤ plain_room q m → Takes q count instr ds m
-takes_room q count m instr ds job fifo some le =
+    1 ≤ m.trigger → HaveRoom m.trigger m.queues → 0 < count → count ≤ plain_room q m → Takes q count instr ds m
+takes_room q count m instr ds job fifo triggered queues some le =
     let works = chosen (m.fifo_on && m.risc_on) (room_in m.job q m) count some le in
     let on = and_parts m.fifo_on m.risc_on works.true_is in
     let lets = chosen (lets_plain q instr ds m) (whole_entries q ds) count some (subst (λ job. count ≤ room_in job q m) job works.within) in
     let within = lets.within in
-    let one =
-    and_parts (m.trigger == 1)
-    (is_none (front (queue_state q m.queues)) && (not (demand_on q ds).needs_sol && ((instr_off instr == 0) && none_served ds m)))
-    lets.true_is in
     let none =
     and_parts (is_none (front (queue_state q m.queues)))
-    (not (demand_on q ds).needs_sol && ((instr_off instr == 0) && none_served ds m)) one.1 in
+    (not (demand_on q ds).needs_sol && ((instr_off instr == 0) && none_served ds m)) lets.true_is in
     let sol = and_parts (not (demand_on q ds).needs_sol) ((instr_off instr == 0) && none_served ds m) none.1 in
     let off = and_parts (instr_off instr == 0) (none_served ds m) sol.1 in
     record {
       on = on.0;
       runs = on.1;
       job = job;
-      fifo = fifo;
-      one = grind (arith, one.0);
-      none = none.0;
+      empty = empty_queue (queue_state q m.queues) (IsQueue-queue_state q m.queues fifo) none.0;
+      some = triggered;
+      room = capacity_of q m.trigger m.queues queues;
       sol = not-true _ sol.0;
       off = grind (arith, off.0);
       still = off.1;
       rest = omega (arith, within, some);
       all = omega (arith, within, some);
     }
+
+-- there is room for as many as are given
+pub takes_all : (q : Queue) (m : State) (instr : Instr) (ds : Demands) → m.job ≡ Running instr ds → IsFifo m.queues → 1 ≤ m.trigger →
+    HaveRoom m.trigger m.queues → (sum : ℕ) (dwords : List ℕ) (entries : List (ℕ × ℕ)) → 0 < length dwords →
+    length dwords ≤ 4 * plain_room q m → AreRun dwords sum entries → Takes q (length entries) instr ds m
+takes_all q m instr ds job fifo triggered queues sum dwords entries some room given =
+    let many = ap length (sym given.plain.dwords) ∙ length_dwords entries in
+    takes_room q (length entries) m instr ds job fifo triggered queues (omega (arith, many, some)) (omega (arith, many, room))
 
 -- an instruction runs there
 pub room_running : (at : Phase) (wait : Wait) (instr : Instr) (ds : Demands) (q : Queue) (count : ℕ) (m : State) →
@@ -407,39 +586,280 @@ room_running at wait instr ds q count m is some le =
 
 -- ---- by their DWORDs and the sum of their turns
 
-length_dwords : (entries : List (ℕ × ℕ)) → length (dwords_of entries) ≡ length entries * 4
-length_dwords [] = refl
-length_dwords (entry ∷ entries) = let rest = length_dwords entries in omega (arith, rest)
+-- the first of them make whole bursts, and those behind are fewer than one burst
+pub record AreParted (m : State) (whole : ℕ) (dwords : List ℕ) (entries : List (ℕ × ℕ)) : Type 0 where
+  pub bursts : ℕ
+  pub first : List (ℕ × ℕ)
+  pub later : List (ℕ × ℕ)
+  pub all : first ++ later ≡ entries
+  pub many : length first ≡ bursts * m.trigger
+  pub few : length later < m.trigger
+  pub bytes : whole ≡ length first * 4
+  pub taken : dwords_of first ≡ take whole dwords
+  pub left : dwords_of later ≡ drop whole dwords
+  pub fits : AreDwords later
 
-pub plain_run : (q : Queue) (instr : Instr) (ds : Demands) (m after : State) (count turns : ℕ) (dwords : List ℕ) (entries : List (ℕ × ℕ)) →
-    m.job ≡ Running instr ds → IsFifo m.queues → m.turns ≤ 2 ^ 64 - 1 → 0 < length dwords → count ≡ length dwords →
-    length dwords ≤ 4 * plain_room q m → ArePlain dwords turns entries →
-    after ≡ with_turns (more m.turns turns) (put_down q count instr ds 0 dwords m) → after ≡ run m (plain_steps q entries)
-plain_run q instr ds m after count turns dwords [] job fifo few some all room plain made =
-    let none = ap length plain.dwords in
-    absurd (omega (arith, some, none))
-plain_run q instr ds m after count turns dwords (entry ∷ entries) job fifo few some all room plain made =
-    let many = length_dwords (entry ∷ entries) in
-    let same = ap length plain.dwords in
-    let takes =
-    takes_room q (length (entry ∷ entries)) m instr ds job fifo (omega (arith, many, same, some)) (omega (arith, many, same, room)) in
-    let count_is : count ≡ length (entry ∷ entries) * 4 = all ∙ sym same ∙ many in
-    made
-    ∙ ap (λ n. with_turns (more m.turns turns) (put_down q n instr ds 0 dwords m)) count_is
-    ∙ ap (λ bytes. with_turns (more m.turns turns) (put_down q (length (entry ∷ entries) * 4) instr ds 0 bytes m)) (sym plain.dwords)
-    ∙ ap (λ n. with_turns (more m.turns n) (put_down q (length (entry ∷ entries) * 4) instr ds 0 (dwords_of (entry ∷ entries)) m))
-    (sym plain.turns)
-    ∙ sym (all_run q instr ds entry entries m takes few plain.each)
+fit_behind : (n : ℕ) (entries : List (ℕ × ℕ)) → AreDwords entries → AreDwords (drop n entries)
+fit_behind zero entries fits = fits
+fit_behind (suc n) [] fits = tt
+fit_behind (suc n) (entry ∷ entries) fits = fit_behind n entries fits.1
 
-pub plain_taken : (q : Queue) (instr : Instr) (ds : Demands) (m : State) (sum : ℕ) (dwords : List ℕ) (entries : List (ℕ × ℕ)) →
-    m.job ≡ Running instr ds → IsFifo m.queues → m.turns ≤ 2 ^ 64 - 1 →
-    length dwords ≤ 4 * plain_room q m → ArePlain dwords sum entries → AreTaken q entries m
-plain_taken q instr ds m sum dwords [] job fifo few room plain = tt
-plain_taken q instr ds m sum dwords (entry ∷ entries) job fifo few room plain =
-    let many = length_dwords (entry ∷ entries) in
-    let same = ap length plain.dwords in
-    all_taken q instr ds (entry ∷ entries) m
-    (takes_room q (length (entry ∷ entries)) m instr ds job fifo (omega arith) (omega (arith, many, same, room))) few plain.each
+pub parted : (m : State) (whole turns : ℕ) (dwords : List ℕ) (entries : List (ℕ × ℕ)) → 1 ≤ m.trigger → AreRun dwords turns entries →
+    whole ≡ length dwords - length dwords % (4 * m.trigger) → AreParted m whole dwords entries
+parted m whole turns dwords entries some run made =
+    let d : ℕ = 4 * m.trigger in
+    let count : ℕ = length dwords / d in
+    let first : List (ℕ × ℕ) = take (count * m.trigger) entries in
+    let later : List (ℕ × ℕ) = drop (count * m.trigger) entries in
+    let many = ap length (sym run.plain.dwords) ∙ length_dwords entries in
+    let divided = mod-eq-sub-div-mul (length dwords) d in
+    let rest = mod-lt (length dwords) {m = d} (omega (arith, some)) in
+    let product : count * d ≡ count * m.trigger * 4 = ap (λ n. count * n) (mul_comm 4 m.trigger) ∙ sym (mul_assoc count m.trigger 4) in
+    let up_to : count * d ≤ length dwords = div-mul-le_self (length dwords) d in
+    let first_many : length first ≡ count * m.trigger = length-take-le (count * m.trigger) entries (omega (arith, many, product, up_to)) in
+    let later_many = length-drop (count * m.trigger) entries in
+    let bytes : whole ≡ length first * 4 = omega (arith, made, divided, product, up_to, first_many) in
+    let joined : dwords_of first ++ dwords_of later ≡ dwords =
+    sym (dwords_both first later) ∙ ap dwords_of (take-append-drop (count * m.trigger) entries) ∙ run.plain.dwords in
+    let seam : whole ≡ length (dwords_of first) = bytes ∙ sym (length_dwords first) in
+    record {
+      bursts = count;
+      first = first;
+      later = later;
+      all = take-append-drop (count * m.trigger) entries;
+      many = first_many;
+      few = omega (arith, later_many, many, divided, rest, product, up_to);
+      bytes = bytes;
+      taken =
+          sym (take-append_seam (dwords_of first) (dwords_of later)) ∙ ap₂ (λ n list. take n list) (sym seam) joined;
+      left =
+          sym (drop-append_seam (dwords_of first) (dwords_of later)) ∙ ap₂ (λ n list. drop n list) (sym seam) joined;
+      fits = fit_behind (count * m.trigger) entries run.dwords;
+    }
+
+-- the bursts are stored, where there are any, and the others wait
+abbrev pub settled : Bool → Queue → Instr → Demands → (first later : List (ℕ × ℕ)) → State → State
+settled false q instr ds first later m = holding q later m
+settled true q instr ds first later m = holding q later (put_down q (length first * 4) instr ds 0 (dwords_of first) m)
+
+takes-program : (q : Queue) (count : ℕ) (instr : Instr) (ds : Demands) (program : RiscProgram) (m : State) → Takes q count instr ds m →
+    Takes q count instr ds (with_program program m)
+takes-program q count instr ds program m h =
+    record {
+      on = h.on;
+      runs = h.runs;
+      job = h.job;
+      empty = record { entries = h.empty.entries; taken = h.empty.taken; room = h.empty.room };
+      some = h.some;
+      room = h.room;
+      sol = h.sol;
+      off = h.off;
+      still = h.still;
+      rest = h.rest;
+      all = h.all;
+    }
+
+settled-program : (program : RiscProgram) (some : Bool) (q : Queue) (instr : Instr) (ds : Demands) (first later : List (ℕ × ℕ)) (m : State) →
+    settled some q instr ds first later (with_program program m) ≡ with_program program (settled some q instr ds first later m)
+settled-program program false q instr ds first later m = refl
+settled-program program true q instr ds first later m = refl
+
+settled-turns : (some : Bool) (q : Queue) (instr : Instr) (ds : Demands) (first later : List (ℕ × ℕ)) (m : State) →
+    (settled some q instr ds first later m).turns ≡ m.turns
+settled-turns false q instr ds first later m = refl
+settled-turns true q instr ds first later m = refl
+
+-- there is a burst where they make the queue ready
+burst_or_none : (trigger bursts first later count : ℕ) → first ≡ bursts * trigger → later < trigger → first + later ≡ count →
+    nat_le trigger count ≡ nat_lt 0 bursts
+burst_or_none trigger zero first later count many few all = too_few trigger count (omega (arith, many, few, all))
+burst_or_none trigger (suc bursts) first later count many few all =
+    let product = suc-mul bursts trigger in
+    let le : trigger ≤ count = omega (arith, many, product, all) in
+    grind (arith, le)
+
+none_first : (first : List (ℕ × ℕ)) → length first ≡ 0 → first ≡ []
+none_first [] e = refl
+none_first (entry ∷ first) e = absurd (omega (arith, e))
+
+unlike : true ≡ false → ⊥
+unlike e = cc
+
+by_bursts : (q : Queue) (instr : Instr) (ds : Demands) (m : State) (bursts : ℕ) (some : Bool) (first later : List (ℕ × ℕ)) →
+    Takes q (length (first ++ later)) instr ds m →
+    length first ≡ bursts * m.trigger → length later < m.trigger → nat_lt 0 bursts ≡ some → m.turns ≤ 2 ^ 64 - 1 →
+    HaveTurns (first ++ later) →
+    run m (plain_steps q (first ++ later)) ≡ with_turns (more m.turns (turns_behind (first ++ later))) (settled some q instr ds first later m)
+by_bursts q instr ds m zero true first later h many few is counts have = absurd cc
+by_bursts q instr ds m zero false first later h many few is counts have =
+    let none : first ≡ [] = none_first first (omega (arith, many)) in
+    let alone : Takes q (length later) instr ds m = subst (λ list. Takes q (length (list ++ later)) instr ds m) none h in
+    let have_later : HaveTurns later = subst (λ list. HaveTurns (list ++ later)) none have in
+    ap (λ list. run m (plain_steps q (list ++ later))) none
+    ∙ ap (λ s. run s (plain_steps q later)) (sym (holding_none q m h.empty))
+    ∙ fill q instr ds later [] m (behind_none q _ instr ds m alone) (omega (arith, few)) counts have_later
+    ∙ ap (λ list. holding q later (with_turns (more m.turns (turns_behind (list ++ later))) m)) (sym none)
+by_bursts q instr ds m (suc bursts) false first later h many few is counts have =
+    let some : nat_lt 0 (suc bursts) ≡ true = grind arith in
+    absurd (unlike (sym some ∙ is))
+by_bursts q instr ds m (suc bursts) true first later h many few is counts have =
+    let both_many = length-append first later in
+    let have_parts = have_both first later have in
+    let turns : ℕ = more m.turns (turns_behind first) in
+    let less : Demands = with_demand q (demand_less (length first * 4) (demand_on q ds)) ds in
+    let stored : State = put_down q (length first * 4) instr ds 0 (dwords_of first) m in
+    let left = others q _ m instr ds h first (omega (arith, both_many)) (length later) turns (sym both_many) in
+    let sum : more turns (turns_behind later) ≡ more m.turns (turns_behind (first ++ later)) =
+    (let all = turns_both first later in omega (arith, all)) in
+    ap (run m) (steps_both q first later)
+    ∙ run-append m (plain_steps q first) (plain_steps q later)
+    ∙ ap (λ s. run s (plain_steps q later))
+    (all_bursts q instr bursts ds first m _ h many (omega (arith, both_many)) counts have_parts.0)
+    ∙ ap (λ s. run s (plain_steps q later))
+    (sym (holding_none q (with_turns turns stored) (record { entries = h.empty.entries; taken = h.empty.taken; room = h.empty.room })))
+    ∙ fill q instr less later [] (with_turns turns stored) (behind_none q _ instr less _ left) (omega (arith, few)) (omega arith) have_parts.1
+    ∙ ap (λ n. holding q later (with_turns n stored)) sum
+
+module _ (q : Queue) (instr : Instr) (ds : Demands) (m : State) (whole turns : ℕ) (some : Bool) (dwords : List ℕ) (entries : List (ℕ × ℕ))
+    (p : AreParted m whole dwords entries) (is : nat_lt 0 whole ≡ some) (h : Takes q (length entries) instr ds m)
+    (given : AreRun dwords turns entries) where
+  some_bursts : nat_lt 0 p.bursts ≡ some
+  some_bursts = by p.bursts refl
+    where
+      by : (bursts : ℕ) → bursts ≡ p.bursts → nat_lt 0 bursts ≡ some
+      by zero none =
+          let many = p.many in
+          let none_many : length p.first ≡ 0 = (let e = many ∙ ap (λ n. n * m.trigger) (sym none) in omega (arith, e)) in
+          let bytes = p.bytes in
+          let no_bytes : whole ≡ 0 = omega (arith, bytes, none_many) in
+          ap (nat_lt 0) (sym no_bytes) ∙ is
+      by (suc bursts) more_than =
+          let many = p.many in
+          let positive = h.some in
+          let some_many : length p.first ≡ bursts * m.trigger + m.trigger = many ∙ ap (λ n. n * m.trigger) (sym more_than) ∙ suc-mul bursts m.trigger in
+          let bytes = p.bytes in
+          let some_bytes : 1 ≤ whole = omega (arith, bytes, some_many, positive) in
+          (let e : nat_lt 0 (suc bursts) ≡ nat_lt 0 whole = grind (arith, some_bytes) in e) ∙ is
+
+  -- of any machine that takes them as this one does
+  runs_as : (n : State) → n.trigger ≡ m.trigger → Takes q (length entries) instr ds n → n.turns ≤ 2 ^ 64 - 1 →
+      run n (plain_steps q entries) ≡ with_turns (more n.turns turns) (settled some q instr ds p.first p.later n)
+  runs_as n same takes counts =
+      let these : Takes q (length (p.first ++ p.later)) instr ds n = subst (λ list. Takes q (length list) instr ds n) (sym p.all) takes in
+      ap (λ list. run n (plain_steps q list)) (sym p.all)
+      ∙ by_bursts q instr ds n p.bursts some p.first p.later these (p.many ∙ ap (λ t. p.bursts * t) (sym same))
+      (subst (λ t. length p.later < t) (sym same) p.few) some_bursts counts (subst HaveTurns (sym p.all) given.plain.each)
+      ∙ ap (λ list. with_turns (more n.turns (turns_behind list)) (settled some q instr ds p.first p.later n)) p.all
+      ∙ ap (λ count. with_turns (more n.turns count) (settled some q instr ds p.first p.later n)) given.plain.turns
+
+  abbrev pub ends : State
+  ends = with_turns (more m.turns turns) (settled some q instr ds p.first p.later m)
+
+  pub plain_run : m.turns ≤ 2 ^ 64 - 1 → run m (plain_steps q entries) ≡ ends
+  plain_run counts = runs_as m refl h counts
+
+  -- whatever the program is
+  pub plain_run-program : (program : RiscProgram) → m.turns ≤ 2 ^ 64 - 1 →
+      run (with_program program m) (plain_steps q entries) ≡ with_program program ends
+  plain_run-program program counts =
+      runs_as (with_program program m) refl (takes-program q (length entries) instr ds program m h) counts
+      ∙ ap (with_turns (more m.turns turns)) (settled-program program some q instr ds p.first p.later m)
+
+  pub plain_taken : m.turns ≤ 2 ^ 64 - 1 → AreTaken some q entries m
+  plain_taken counts =
+      let positive = h.some in
+      let none : 0 + length entries ≡ length entries = omega arith in
+      let all_many : length p.first + length p.later ≡ length entries = sym (length-append p.first p.later) ∙ ap length p.all in
+      subst (λ b. AreTaken b q entries m)
+      (burst_or_none m.trigger p.bursts (length p.first) (length p.later) (length entries) p.many p.few all_many ∙ some_bursts)
+      (subst (AreTaken (nat_le m.trigger (length entries)) q entries) (holding_none q m h.empty)
+      (subst (λ n. AreTaken (nat_le m.trigger n) q entries (holding q [] m)) none
+      (all_taken q instr entries [] ds m (behind_none q _ instr ds m h) (omega (arith, positive)) counts given.plain.each)))
+
+  -- what the code makes
+  pub made_taken : some ≡ true → (put now : State) →
+      put ≡ put_down q (length (take whole dwords)) instr ds 0 (take whole dwords) m →
+      ((es : List (ℕ × ℕ)) → dwords_of es ≡ drop whole dwords → AreDwords es → now ≡ all_pushed q es put) →
+      now ≡ settled some q instr ds p.first p.later m
+  made_taken holds put now is_put is_now =
+      let few = p.few in
+      let room = h.room in
+      let same_many : length (take whole dwords) ≡ length p.first * 4 = ap length (sym p.taken) ∙ length_dwords p.first in
+      is_now p.later p.left p.fits
+      ∙ ap (all_pushed q p.later) (is_put ∙ ap₂ (λ n bytes. put_down q n instr ds 0 bytes m) same_many (sym p.taken))
+      ∙ ap (all_pushed q p.later) (sym (holding_none q (put_down q (length p.first * 4) instr ds 0 (dwords_of p.first) m)
+      (record { entries = h.empty.entries; taken = h.empty.taken; room = h.empty.room })))
+      ∙ all_held q p.later [] (put_down q (length p.first * 4) instr ds 0 (dwords_of p.first) m) h.on (omega (arith, few, room))
+      ∙ ap (λ b. settled b q instr ds p.first p.later m) (sym holds)
+
+  pub made_waiting : some ≡ false → (now : State) →
+      ((es : List (ℕ × ℕ)) → dwords_of es ≡ drop whole dwords → AreDwords es → now ≡ all_pushed q es m) →
+      now ≡ settled some q instr ds p.first p.later m
+  made_waiting holds now is_now =
+      let few = p.few in
+      let room = h.room in
+      is_now p.later p.left p.fits
+      ∙ ap (all_pushed q p.later) (sym (holding_none q m h.empty))
+      ∙ all_held q p.later [] m h.on (omega (arith, few, room))
+      ∙ ap (λ b. settled b q instr ds p.first p.later m) (sym holds)
+
+  -- and counts
+  pub made_counted : (now after : State) → now ≡ settled some q instr ds p.first p.later m →
+      after ≡ with_turns (more now.turns turns) now → after ≡ ends
+  made_counted now after is_now is_after =
+      is_after
+      ∙ ap (λ (s : State). with_turns (more s.turns turns) s) is_now
+      ∙ ap (λ n. with_turns (more n turns) (settled some q instr ds p.first p.later m))
+      (settled-turns some q instr ds p.first p.later m)
+
+  pub made_few : (now : State) → now ≡ settled some q instr ds p.first p.later m → now.turns < 2 ^ 64 → m.turns ≤ 2 ^ 64 - 1
+  made_few now is_now few =
+      let same : now.turns ≡ m.turns = ap (λ (s : State). s.turns) is_now ∙ settled-turns some q instr ds p.first p.later m in
+      omega (arith, same, few)
+
+-- ---- pushed one after the other by the code
+
+pub record AreLeft (q : Queue) (entries : List (ℕ × ℕ)) (bytes : List ℕ) (at : ℕ) (old now : State) (rest : List (ℕ × ℕ)) : Type 0 where
+  pub dwords : dwords_of rest ≡ drop at bytes
+  pub fits : AreDwords rest
+  pub same : all_pushed q rest now ≡ all_pushed q entries old
+
+dword_of : (dword : ℕ) → dword < 2 ^ 32 → from_le_bytes w32 (lane_bytes dword) ≡ dword
+dword_of dword fits = from_le_bytes-to_le_bytes_4 dword fits
+
+pub next_left : (q : Queue) (entries : List (ℕ × ℕ)) (bytes : List ℕ) (at dword : ℕ) (old now after : State) (rest : List (ℕ × ℕ)) →
+    AreLeft q entries bytes at old now rest → at + 4 ≤ length bytes →
+    dword ≡ from_le_bytes w32 (get_or bytes at 0 ∷ get_or bytes (at + 1) 0 ∷ get_or bytes (at + 2) 0 ∷ get_or bytes (at + 3) 0 ∷ []) →
+    after ≡ push q (plain_entry dword) now → (left : List (ℕ × ℕ)) × AreLeft q entries bytes (at + 4) old after left
+next_left q entries bytes at dword old now after [] h more_than is made =
+    let none = ap length h.dwords in
+    let left = length-drop at bytes in
+    absurd (omega (arith, none, left, more_than))
+next_left q entries bytes at dword old now after (entry ∷ rest) h more_than is made =
+    let byte : (i : ℕ) → get_or bytes (at + i) 0 ≡ get_or (lane_bytes entry.0 ++ dwords_of rest) i 0 =
+    λ i. sym (get_or-drop at bytes i 0) ∙ ap (λ list. get_or list i 0) (sym h.dwords) in
+    let none : get_or bytes at 0 ≡ get_or bytes (at + 0) 0 = (let e : at ≡ at + 0 = omega arith in ap (λ n. get_or bytes n 0) e) in
+    let first =
+    ap₂ (λ a b. from_le_bytes w32 (a ∷ b ∷ get_or bytes (at + 2) 0 ∷ get_or bytes (at + 3) 0 ∷ [])) (none ∙ byte 0) (byte 1) in
+    let second =
+    ap₂ (λ c d. from_le_bytes w32 (get_or (lane_bytes entry.0 ++ dwords_of rest) 0 0 ∷ get_or (lane_bytes entry.0 ++ dwords_of rest) 1 0
+    ∷ c ∷ d ∷ [])) (byte 2) (byte 3) in
+    let same : dword ≡ entry.0 = is ∙ first ∙ second ∙ dword_of entry.0 h.fits.0 in (
+      rest,
+      record {
+        dwords = ap (drop 4) h.dwords ∙ drop-drop 4 at bytes;
+        fits = h.fits.1;
+        same = ap (all_pushed q rest) (made ∙ ap (λ d. push q (plain_entry d) now) same) ∙ h.same;
+      },
+    )
+
+pub none_left : (q : Queue) (entries : List (ℕ × ℕ)) (bytes : List ℕ) (at : ℕ) (old now : State) (rest : List (ℕ × ℕ)) →
+    AreLeft q entries bytes at old now rest → length bytes - at < 4 → now ≡ all_pushed q entries old
+none_left q entries bytes at old now [] h few = h.same
+none_left q entries bytes at old now (entry ∷ rest) h few =
+    let some = ap length h.dwords in
+    let left = length-drop at bytes in
+    absurd (omega (arith, some, left, few))
 
 -- ---- whatever the program is
 
@@ -455,13 +875,13 @@ plain_room-program program q m = ap (λ room. if m.fifo_on && m.risc_on then roo
 
 turns_leave : (count : ℕ) (m : State) → IsMachine m → IsMachine (run m (replicate count Turn))
 turns_leave zero m h = h
-turns_leave (suc count) m h = turns_leave count (step Turn m) (IsMachine-step Turn m (step Turn m) refl tt h)
+turns_leave (suc count) m h = turns_leave count (step Turn m) (IsMachine-step Turn m (step Turn m) refl tt tt h)
 
 pub plain_leave : (q : Queue) (entries : List (ℕ × ℕ)) (m : State) → IsMachine m → IsMachine (run m (plain_steps q entries))
 plain_leave q [] m h = h
 plain_leave q (entry ∷ entries) m h =
     let pushed : IsMachine (push q (plain_entry entry.0) m) =
-    IsMachine-step (Push q (plain_entry entry.0)) m (push q (plain_entry entry.0) m) refl refl h in
+    IsMachine-step (Push q (plain_entry entry.0)) m (push q (plain_entry entry.0) m) refl refl tt h in
     let turned = turns_leave entry.1 (push q (plain_entry entry.0) m) pushed in
     subst IsMachine (sym (run-append (push q (plain_entry entry.0) m) (replicate entry.1 Turn) (plain_steps q entries)))
     (plain_leave q entries (run (push q (plain_entry entry.0) m) (replicate entry.1 Turn)) turned)

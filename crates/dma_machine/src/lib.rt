@@ -6,9 +6,9 @@ ghost use Rattle.dma_machine.specs.Counts.{acted, acted_times, with_turns};
 ghost use Rattle.dma_machine.specs.FallThrough.{MovesWhole, falls_through};
 ghost use Rattle.dma_machine.specs.Facts.{IsMachine, report_of};
 ghost use Rattle.dma_machine.specs.Looks.{CanGoOn, RetiresAt, holds, next_drop, next_fetch, next_retirement};
-ghost use Rattle.dma_machine.specs.Plain.{AreTaken, plain_room};
+ghost use Rattle.dma_machine.specs.Plain.{AreRun, AreTaken, plain_room};
 ghost use Rattle.machine_model.specs.Paths.{RiscProgram};
-ghost use Rattle.machine_model.specs.PlainEntries.{ArePlain, plain_steps};
+ghost use Rattle.machine_model.specs.PlainEntries.{plain_steps};
 ghost use Rattle.dma_machine.specs.Stills.{is_still};
 ghost use Rattle.fifo_model.specs.Queues.{empty_queues, max_capacity, more, empty_fifo, queue_state};
 ghost use Rattle.irq_status.specs.Register.{has_ocerr};
@@ -303,9 +303,9 @@ impl<R: Ram> Machine<R> {
     }
 
     /// How many plain entries, data entries with the status PixelsValid, `push_plain` may push to a queue. Where each of them has a
-    /// turn behind it, that turn takes it whole, and behind it the machine stands still. None where the FIFO or RISC is disabled, no
-    /// data instruction runs, the trigger point is not 1, the line has not begun, a lane is off, or an entry waits in this queue or
-    /// in another one of which the instruction asks something.
+    /// turn behind it, each that makes the queue ready is taken whole with all that the queue holds then, and behind all turns the
+    /// machine stands still. None where the FIFO or RISC is disabled, no data instruction runs, the line has not begun, a lane is
+    /// off, or an entry waits in this queue or in another one of which the instruction asks something and which is ready.
     #[inline]
     pub fn plain_room(&self, q: Queue) -> u32
         ensures room { result ≡ plain_room q self.now }
@@ -316,19 +316,20 @@ impl<R: Ram> Machine<R> {
 
     /// Pushes of plain entries to a queue, one or more, and turns behind each: the bytes are their DWORDs, four for each entry, the
     /// lowest first, and `turns` the sum of their turns, at least one behind each. However the turns are shared out, the machine is as
-    /// after all these pushes and turns, one after the other. The bytes are stored at once.
+    /// after all these pushes and turns, one after the other. The bytes of whole bursts are stored at once, and the entries behind
+    /// them wait in the queue. Answers whether there was a burst.
     #[inline]
-    pub fn push_plain(&mut self, q: Queue, dwords: &[u8], turns: u32)
+    pub fn push_plain(&mut self, q: Queue, dwords: &[u8], turns: u32) -> bool
         requires some { 0 < length dwords.now }
         requires room { length dwords.now ≤ 4 * plain_room q self.old }
-        requires plain { (entries : List (ℕ × ℕ)) × ArePlain dwords.now turns entries }
-        ensures state { (entries : List (ℕ × ℕ)) → ArePlain dwords.now turns entries → self.new ≡ run self.old (plain_steps q entries) }
-        ensures others { (program : RiscProgram) (entries : List (ℕ × ℕ)) → ArePlain dwords.now turns entries →
+        requires plain { (entries : List (ℕ × ℕ)) × AreRun dwords.now turns entries }
+        ensures state { (entries : List (ℕ × ℕ)) → AreRun dwords.now turns entries → self.new ≡ run self.old (plain_steps q entries) }
+        ensures others { (program : RiscProgram) (entries : List (ℕ × ℕ)) → AreRun dwords.now turns entries →
             with_program program self.new ≡ run (with_program program self.old) (plain_steps q entries) }
-        ensures taken { (entries : List (ℕ × ℕ)) → ArePlain dwords.now turns entries → AreTaken q entries self.old }
+        ensures taken { (entries : List (ℕ × ℕ)) → AreRun dwords.now turns entries → AreTaken result q entries self.old }
         ensures facts { IsMachine self.new }
     {
-        self.engine.push_plain(q, dwords, turns);
+        self.engine.push_plain(q, dwords, turns)
     }
 
     /// So many turns of a machine that stands still: beside being counted they do nothing.

@@ -120,8 +120,8 @@ impl<R: Ram> DoubleBuffer<R> {
     ghost use Rattle.capture_file.specs.declared.Step.TheVariants as Step;
     ghost use Rattle.capture_file.specs.Records.{StepFits};
     ghost use Rattle.dma_machine.specs.Facts.{report_of};
-    ghost use Rattle.dma_machine.specs.Plain.{plain_room};
-    ghost use Rattle.machine_model.specs.PlainEntries.{ArePlain, plain_steps};
+    ghost use Rattle.dma_machine.specs.Plain.{AreRun, plain_room};
+    ghost use Rattle.machine_model.specs.PlainEntries.{plain_steps};
     ghost use Rattle.machine_model.specs.Steps.{control_pushed_as, pushed_as};
     ghost use Rattle.slot_chain.specs.States.{stepped};
     ghost use Rattle.double_buffer.specs.Plays.{chain_act};
@@ -166,8 +166,8 @@ impl<R: Ram> DoubleBuffer<R> {
     pub fn push_plain(&mut self, queue: Queue, dwords: &[u8], turns: u32)
         requires some { 0 < length dwords.now }
         requires room { length dwords.now ≤ 4 * plain_room queue self.old.live.machine }
-        requires plain { (entries : List (ℕ × ℕ)) × ArePlain dwords.now turns entries }
-        ensures { (entries : List (ℕ × ℕ)) → ArePlain dwords.now turns entries → self.new ≡ stepped (plain_steps queue entries) self.old }
+        requires plain { (entries : List (ℕ × ℕ)) × AreRun dwords.now turns entries }
+        ensures { (entries : List (ℕ × ℕ)) → AreRun dwords.now turns entries → self.new ≡ stepped (plain_steps queue entries) self.old }
     {
         self.running.push_plain(queue, dwords, turns);
     }

@@ -227,8 +227,7 @@ fn passes_two_plain_entries(m: &mut Machine<MapRam>) -> bool {
         return false;
     }
     let dwords = [0x14, 0x15, 0x16, 0x17, 0x18, 0x19, 0x1a, 0x1b];
-    m.push_plain(One, &dwords, 5);
-    m.plain_room(One) == 1
+    m.push_plain(One, &dwords, 5) && m.plain_room(One) == 1
 }
 
 #[test]
@@ -268,6 +267,68 @@ fn a_run_of_plain_entries(rt: HostRuntime) -> Result<(), Fail> {
 
 // The start of a line, which the turn behind it takes by its verdict; a DWORD that falls through the queue, with a turn to
 // spare; and the end, to which no turn belongs. Pushed with the turns behind them, and with the one turn that takes an entry whole.
+
+// With the trigger point 4, a WRITE of 40 bytes has taken four entries. Of five plain entries that follow, with six turns in all, a burst
+// takes four, and the fifth waits.
+fn passes_a_burst(m: &mut Machine<MapRam>) -> bool {
+    if m.plain_room(One) != 5 {
+        return false;
+    }
+    let dwords = [
+        0x20, 0x21, 0x22, 0x23, 0x24, 0x25, 0x26, 0x27, 0x28, 0x29, 0x2a, 0x2b, 0x2c, 0x2d, 0x2e,
+        0x2f, 0x30, 0x31, 0x32, 0x33,
+    ];
+    m.push_plain(One, &dwords, 6) && m.level(One) == 1
+}
+
+// The line's last entry takes the waiting one with it.
+#[test]
+fn a_run_of_bursts(rt: HostRuntime) -> Result<(), Fail> {
+    let words = [
+        0x8000_8004,
+        0,
+        0x8000_0006,
+        0,
+        0x1c00_0028,
+        0x20000,
+        0x71e1_0000,
+        0x1000,
+    ];
+    let start = [
+        Host(HostWrite::Trigger(0)),
+        Control(Code::Vre),
+        Control(Code::Fm1),
+        Turns(5),
+        Both(One, 2, 0x1312_1110, 1),
+        Both(One, 0, 0x1716_1514, 1),
+        Both(One, 0, 0x1b1a_1918, 1),
+        Both(One, 0, 0x1f1e_1d1c, 1),
+    ];
+    let mut m = made(rt.alloc(), &words, 0)?;
+    play(&mut m, &start);
+    assert!(rt; passes_a_burst(&mut m));
+    assert!(rt; reports(&mut m, &[], &report(15, 32, [0; 4], 0)));
+    assert!(rt;
+        reports(
+            &mut m,
+            &[Both(One, 1, 0x3736_3534, 1)],
+            &report(16, 40, [0; 4], 0)
+        )
+    );
+    assert!(rt;
+        holds(
+            &m,
+            0,
+            &[
+                0x10, 0x11, 0x12, 0x13, 0x14, 0x15, 0x16, 0x17, 0x18, 0x19, 0x1a, 0x1b, 0x1c, 0x1d,
+                0x1e, 0x1f, 0x20, 0x21, 0x22, 0x23, 0x24, 0x25, 0x26, 0x27, 0x28, 0x29, 0x2a, 0x2b,
+                0x2c, 0x2d, 0x2e, 0x2f, 0x30, 0x31, 0x32, 0x33, 0x34, 0x35, 0x36, 0x37, 0,
+            ],
+        )
+    );
+    Ok(())
+}
+
 #[test]
 fn entries_with_turns_behind_them(rt: HostRuntime) -> Result<(), Fail> {
     let words = [

@@ -2,7 +2,8 @@
 
 ghost use Rattle.std.specs.Prelude.{◌≡◌, ◌<◌, ◌≤◌, ◌*◌, ◌∷◌, [], List, false, length, replicate, ℕ};
 ghost use Rattle.dma_machine.specs.Facts.{report_of};
-ghost use Rattle.machine_model.specs.PlainEntries.{ArePlain, plain_steps};
+ghost use Rattle.dma_machine.specs.Plain.{AreRun};
+ghost use Rattle.machine_model.specs.PlainEntries.{plain_steps};
 ghost use Rattle.irq_status.specs.Writes.{IsWrite};
 ghost use Rattle.machine_model.specs.Steps.{Control, Host, Push, Turn, control_pushed_as, pushed_as};
 ghost use Rattle.machine_watch.specs.Watches.{run_room, watched, watching};
@@ -77,12 +78,13 @@ impl<R: Ram, W: Watch> Watched<R, W> {
     pub fn push_plain(&mut self, queue: Queue, dwords: &[u8], turns: u32)
         requires some { 0 < length dwords.now }
         requires room { length dwords.now ≤ 4 * run_room W.LETS_FALL queue self.old.machine }
-        requires plain { (entries : List (ℕ × ℕ)) × ArePlain dwords.now turns entries }
-        ensures { (entries : List (ℕ × ℕ)) → ArePlain dwords.now turns entries →
+        requires plain { (entries : List (ℕ × ℕ)) × AreRun dwords.now turns entries }
+        ensures { (entries : List (ℕ × ℕ)) → AreRun dwords.now turns entries →
             self.new ≡ watched W.notes (plain_steps queue entries) self.old }
     {
-        self.machine.push_plain(queue, dwords, turns);
-        self.watch.took_whole(queue);
+        if self.machine.push_plain(queue, dwords, turns) {
+            self.watch.took_whole(queue);
+        }
     }
 
     /// A push of a control code, as `Machine::push_control`.

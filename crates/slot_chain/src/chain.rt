@@ -99,9 +99,9 @@ impl<R: Ram> Chain<R> {
     ghost use Rattle.irq_status.specs.Writes.{IsWrite};
     ghost use Rattle.machine_model.specs.Steps.{Control, Host, Push, Turn, control_pushed_as, pushed_as};
     ghost use Rattle.dma_machine.specs.Facts.{report_of};
-    ghost use Rattle.dma_machine.specs.Plain.{plain_room};
+    ghost use Rattle.dma_machine.specs.Plain.{AreRun, plain_room};
     ghost use Rattle.dma_machine.specs.Stills.{is_still};
-    ghost use Rattle.machine_model.specs.PlainEntries.{ArePlain, plain_steps};
+    ghost use Rattle.machine_model.specs.PlainEntries.{plain_steps};
     ghost use Rattle.chain_model.specs.Chains.{Belongs};
     ghost use Rattle.chain_model.specs.Live.{LiveInside, Patch, Plain};
     ghost use Rattle.slot_chain.specs.States.{lived, stepped, turned};
@@ -160,8 +160,8 @@ impl<R: Ram> Chain<R> {
     pub fn push_plain(&mut self, q: Queue, dwords: &[u8], turns: u32)
         requires some { 0 < length dwords.now }
         requires room { length dwords.now ≤ 4 * plain_room q self.old.live.machine }
-        requires plain { (entries : List (ℕ × ℕ)) × ArePlain dwords.now turns entries }
-        ensures { (entries : List (ℕ × ℕ)) → ArePlain dwords.now turns entries → self.new ≡ stepped (plain_steps q entries) self.old }
+        requires plain { (entries : List (ℕ × ℕ)) × AreRun dwords.now turns entries }
+        ensures { (entries : List (ℕ × ℕ)) → AreRun dwords.now turns entries → self.new ≡ stepped (plain_steps q entries) self.old }
     {
         self.wheel.machine.push_plain(q, dwords, turns);
     }

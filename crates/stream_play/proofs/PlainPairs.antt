@@ -2,13 +2,14 @@
 use Rattle.std.proofs.Common.{◌≡◌, ℕ, zero, suc, ◌+◌, ◌*◌, ◌≤◌, Bool, List, [], ◌∷◌, ◌++◌, length, map, replicate, take, drop, refl, sym}
 use Rattle.std.proofs.Common.{ap, subst, ◌∙◌, arith}
 use Rattle.fifo_model.specs.declared.Queue.{Queue}
-use Rattle.machine_model.specs.PlainEntries.{ArePlain, HaveTurns, plain_entry, plain_steps}
+use Rattle.machine_model.specs.PlainEntries.{HaveTurns, plain_entry, plain_steps}
 use Rattle.machine_model.specs.Steps as machine
 use Rattle.capture_file.specs.declared.Step.{Step}
 use Rattle.capture_file.specs.declared.Step.TheVariants.{Push, Turns}
 use Rattle.capture_file.specs.Pairs.{AreCopied, ArePairs, TakesPairs, pair_steps}
 use Rattle.capture_file.specs.Readers.{Reader, behind, resumed}
 use Rattle.capture_file.specs.Streams.{Reading, steps_run, with_step}
+use Rattle.dma_machine.specs.Plain.{AreDwords, AreRun}
 use Rattle.machine_watch.specs.Watches.{Notes, Watching, watched}
 use Rattle.chain_model.specs.Chains.{Chain}
 use Rattle.chain_model.specs.Live.{Live, LiveStep, Plain, live_run, live_step}
@@ -24,11 +25,18 @@ have_turns : (queue : Queue) (before : ℕ) (bytes : List ℕ) (pairs : List (�
 have_turns queue before bytes [] are = tt
 have_turns queue before bytes (pair ∷ pairs) are = (are.0.some, have_turns queue (before + pair.1) (drop 11 bytes) pairs are.1)
 
-pub are_plain : (queue : Queue) (before count sum : ℕ) (bytes dwords : List ℕ) (pairs : List (ℕ × ℕ)) →
+are_dwords : (queue : Queue) (before : ℕ) (bytes : List ℕ) (pairs : List (ℕ × ℕ)) → ArePairs queue before bytes pairs → AreDwords pairs
+are_dwords queue before bytes [] are = tt
+are_dwords queue before bytes (pair ∷ pairs) are = (are.0.fits, are_dwords queue (before + pair.1) (drop 11 bytes) pairs are.1)
+
+pub are_run : (queue : Queue) (before count sum : ℕ) (bytes dwords : List ℕ) (pairs : List (ℕ × ℕ)) →
     AreCopied queue before count sum bytes dwords pairs →
-    ArePlain (take (4 * count) dwords) sum pairs
-are_plain queue before count sum bytes dwords pairs h =
-    record { dwords = sym h.copied; turns = h.turned; each = have_turns queue before bytes pairs h.there }
+    AreRun (take (4 * count) dwords) sum pairs
+are_run queue before count sum bytes dwords pairs h =
+    record {
+      plain = record { dwords = sym h.copied; turns = h.turned; each = have_turns queue before bytes pairs h.there };
+      dwords = are_dwords queue before bytes pairs h.there;
+    }
 
 -- ---- a player takes them
 

@@ -7,9 +7,8 @@ ghost use Rattle.fifo_model.specs.declared.Queue.{Queue as QueueOf};
 ghost use Rattle.capture_file.specs.Readers.{fresh};
 ghost use Rattle.capture_file.specs.Records.{StepFits};
 ghost use Rattle.capture_file.specs.Pairs.{pair_steps};
-ghost use Rattle.dma_machine.specs.Plain.{plain_room};
+ghost use Rattle.dma_machine.specs.Plain.{AreRun, plain_room};
 ghost use Rattle.double_buffer.specs.Plays.{chain_act};
-ghost use Rattle.machine_model.specs.PlainEntries.{ArePlain};
 ghost use Rattle.machine_watch.specs.Watches.{run_room};
 ghost use Rattle.stream_play.specs.Plays.{acted, watch_act};
 
@@ -66,8 +65,8 @@ pub trait Player {
     fn push_plain(&mut self, queue: Queue, dwords: &[u8], turns: u32)
         requires some { 0 < length dwords.now }
         requires room { length dwords.now ≤ 4 * room queue self.old }
-        requires plain { (pairs : List (ℕ × ℕ)) × ArePlain dwords.now turns pairs }
-        ensures { (pairs : List (ℕ × ℕ)) → ArePlain dwords.now turns pairs → self.new ≡ acted act (pair_steps queue pairs) self.old };
+        requires plain { (pairs : List (ℕ × ℕ)) × AreRun dwords.now turns pairs }
+        ensures { (pairs : List (ℕ × ℕ)) → AreRun dwords.now turns pairs → self.new ≡ acted act (pair_steps queue pairs) self.old };
 
     /// Takes a write of the host to a register.
     fn host(&mut self, write: HostWrite)
