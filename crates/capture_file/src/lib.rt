@@ -17,6 +17,7 @@ mod writing;
 
 pub use image::write_image;
 pub use laws::{one_image, one_spelling, stream_goes_on, value_or_fault};
+pub use pairs::PAIR;
 pub use pieces::read_stream;
 pub use program::{ProgramError, ProgramFile, read_program};
 pub use reader::{Got, StepReader};

@@ -12,8 +12,8 @@ use fifo_model::Queue;
 /// The status of four valid pixel bytes within a line.
 const PIXELS_VALID: u8 = 0;
 
-/// The bytes of a pair.
-const PAIR: usize = 11;
+/// The bytes of a pair of records: a data push, and the turns behind it.
+pub const PAIR: usize = 11;
 
 #[inline(always)]
 fn push_tag(queue: Queue) -> u8

@@ -12,7 +12,7 @@ ghost use Rattle.stream_play.specs.Runs.{HoldsNoFault};
 
 use crate::player::Player;
 use capture_desk::Desk;
-use capture_file::{FileFault, Got, Input, Step, StepReader};
+use capture_file::{FileFault, Got, Input, PAIR, Step, StepReader};
 use command_steps::{PIECE, read_into};
 use command_texts::Refusal;
 use fifo_model::{Entry, Queue};
@@ -23,9 +23,6 @@ const LONGEST_STREAM: u64 = 4_294_967_295;
 
 /// The most pairs of records that are handed on at once.
 const MOST_PAIRS: usize = 512;
-
-/// The bytes of a pair.
-const PAIR: usize = 11;
 
 /// Hands a record to the player.
 #[inline]
