@@ -16,11 +16,11 @@ module _ (program : RiscProgram) (place : Place) (x : Instr) (count : ℕ) (read
   next-is after fine after-is =
       ap (λ (c : Option Cause). next_by c program place) (cause-is ∙ fine) ∙ ap (λ (r : Reading). place_read r place) read ∙ after-is
 
-  -- what holds of the instruction that is read holds of the place
-  pub judged : (result : Result Place Cause) →
-      MatchResult result (λ after. (instr_cause program x place.target ≡ None) × (place_after x count place ≡ after))
+  -- what holds of the instruction that is read holds of the place, whatever an answer holds beside the next one
+  pub judged : {A : Type 0} (result : Result A Cause) (place_of : A → Place) →
+      MatchResult result (λ after. (instr_cause program x place.target ≡ None) × (place_after x count place ≡ place_of after))
       (λ cause. instr_cause program x place.target ≡ Some cause) →
-      MatchResult result (λ next. (cause_at program place ≡ None) × (next_place program place ≡ next))
+      MatchResult result (λ next. (cause_at program place ≡ None) × (next_place program place ≡ place_of next))
       (λ cause. cause_at program place ≡ Some cause)
-  judged (Ok after) told = (cause-is ∙ told.0, next-is after told.0 told.1)
-  judged (Err cause) told = cause-is ∙ told
+  judged (Ok after) place_of told = (cause-is ∙ told.0, next-is (place_of after) told.0 told.1)
+  judged (Err cause) place_of told = cause-is ∙ told

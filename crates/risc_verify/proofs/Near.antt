@@ -3,7 +3,7 @@ use Rattle.std.proofs.Common.{◌≡◌, ℕ, zero, suc, ◌+◌, ◌-◌, ◌*�
 use Rattle.std.proofs.Common.{◌∷◌, ◌++◌, length, take, drop, Option, Some, None, Err, refl, sym, ap, subst, ◌∙◌, arith, is_some, IfSome}
 use Rattle.std.proofs.Common.{if◌then◌else◌, ◌==◌, nat_lt, nat_le, slice_index, leb-true, ltb-true, eqb-true}
 use Rattle.std.proofs.lemmas.Bool.{cases_lt, or_cases}
-use Rattle.std.proofs.lemmas.List.{drop-drop, drop-take, length-append}
+use Rattle.std.proofs.lemmas.List.{drop-drop, drop-take, length-append, length-take-le}
 use Rattle.std.proofs.Math.Seq.{drop-append-add, take-append_seam}
 use Rattle.risc_word.specs.declared.WordFault.TheVariants.{Cut}
 use Rattle.risc_word.specs.Words.{first_instr, instr_at}
@@ -13,7 +13,7 @@ use Rattle.machine_model.proofs.BeforeTurns.{three_parts}
 use Rattle.machine_model.proofs.OneSpan.{word_at-one_span, word_at-behind, fetch-one_span}
 use Rattle.risc_verify.specs.declared.spans.SpanPlace.{SpanPlace}
 use Rattle.risc_verify.specs.Programs.{number_from, word_of}
-use Rattle.risc_verify.specs.Places.{has_address, number_in, stands_from, IsNear}
+use Rattle.risc_verify.specs.Places.{has_address, number_in, stands_from, IsAt, IsNear}
 use Rattle.machine_model.proofs.Spans.{not_in}
 use Rattle.risc_verify.proofs.Cuts.{StandsFrom, stands-there, before-none}
 
@@ -302,3 +302,79 @@ module _ (program : RiscProgram) (made : IsProgram program) (p : SpanPlace) (nea
     told-low program made p near address word (sym is),
     told-inside program made p near address word (sym is),
   )
+
+-- A word of a span so many words behind another one, or the place behind the last, where no word is.
+
+number-of : (p : SpanPlace) (k : ℕ) → k < p.count → number_in p (p.at + 4 * k) ≡ Some (p.first + k)
+number-of p k below =
+    let from : nat_le p.at (p.at + 4 * k) ≡ true = grind arith in
+    let whole : ((p.at + 4 * k - p.at) % 4 == 0) ≡ true = grind arith in
+    let number : (p.at + 4 * k - p.at) / 4 ≡ k = omega arith in
+    let inside : nat_lt ((p.at + 4 * k - p.at) / 4) p.count ≡ true = rw number (grind arith) in
+    let has : has_address p (p.at + 4 * k) ≡ true = rw (from, whole, inside) in
+    ap (λ test. if test then Some (p.first + (p.at + 4 * k - p.at) / 4) else None) has ∙ ap (λ n. Some (p.first + n)) number
+
+no-number : (number : Option ℕ) → is_some number ≡ false → number ≡ None
+no-number None none = refl
+no-number (Some number) none = absurd (cc)
+
+none-behind : (program : RiscProgram) (p : SpanPlace) → Seen 0 program.spans p → word_of program (p.at + 4 * p.count) ≡ None
+none-behind program p view =
+    let count = view.count in
+    let k = length view.words in
+    let none : word_among program.spans (p.at + 4 * k) ≡ None =
+    view.alone k (omega arith) ∙ is-one p.at view.words (p.at + 4 * k) view.some ∙ word_at-behind p.at k view.words [] (omega arith) in
+    let there : is_some (word_of program (p.at + 4 * k)) ≡ false =
+    sym (is_there-number 0 program.spans (p.at + 4 * k)) ∙ ap is_there none in
+    ap (λ n. word_of program (p.at + 4 * n)) (sym count) ∙ no-number (word_of program (p.at + 4 * k)) there
+
+module _ (program : RiscProgram) (made : IsProgram program) (p : SpanPlace) (near : IsNear program p) (address word : ℕ)
+    (there : number_in p address ≡ Some word) where
+  number-is : (has_address p address ≡ true) × (p.first + (address - p.at) / 4 ≡ word)
+  number-is = number-parts (has_address p address) (p.first + (address - p.at) / 4) word there
+
+  begins : address ≡ p.at + 4 * ((address - p.at) / 4)
+  begins = let h = parts p address number-is.0 in let from = h.from in let whole = h.whole in omega arith
+
+  later-there : (count : ℕ) → word + count < p.first + p.count → number_in p (address + 4 * count) ≡ Some (word + count)
+  later-there count below =
+      let is = number-is.1 in
+      let k = (address - p.at) / 4 + count in
+      let at : address + 4 * count ≡ p.at + 4 * k = omega (arith, begins) in
+      let number : p.first + k ≡ word + count = omega arith in
+      ap (number_in p) at ∙ number-of p k (omega arith) ∙ ap Some number
+
+  later-none : (count : ℕ) → word + count ≡ p.first + p.count → word_of program (address + 4 * count) ≡ None
+  later-none count behind =
+      let is = number-is.1 in
+      let at : address + 4 * count ≡ p.at + 4 * p.count = omega (arith, begins) in
+      ap (word_of program) at ∙ none-behind program p (view program made p near address number-is.0)
+
+  whole-length : length (take (p.first + p.count) (all_words program)) ≡ p.first + p.count
+  whole-length = length-take-le (p.first + p.count) (all_words program) (told-end program made p near address word there)
+
+  pub at-word : IsAt program p (take (p.first + p.count) (all_words program)) word address
+  at-word =
+      let long = whole-length in
+      let is = number-is.1 in
+      let below = near-in program made p near address number-is.0 in
+      record { near = near; part = refl; there = λ inside. there; none = λ behind. absurd (omega arith) }
+
+  pub at-later : (words : List ℕ) (count : ℕ) → words ≡ take (p.first + p.count) (all_words program) → word + count ≤ length words →
+      IsAt program p words (word + count) (address + 4 * count)
+  at-later words count part within =
+      let long : length words ≡ p.first + p.count = ap length part ∙ whole-length in
+      record {
+        near = near;
+        part = part;
+        there = λ below. later-there count (omega arith);
+        none = λ behind. later-none count (omega arith);
+      }
+
+module _ (program : RiscProgram) (made : IsProgram program) (p : SpanPlace) (words : List ℕ) (number address : ℕ)
+    (at : IsAt program p words number address) (inside : number < length words) where
+  pub at-number : word_of program address ≡ Some number
+  at-number = told-number program made p at.near address number (at.there inside)
+
+  pub at-inside : number < length (all_words program)
+  at-inside = told-inside program made p at.near address number (at.there inside)

@@ -1,7 +1,9 @@
 -- Spans that share one list of words, and where each of them is in it.
-use Rattle.std.specs.Prelude.{◌≡◌, ℕ, ◌+◌, ◌-◌, ◌*◌, ◌/◌, ◌%◌, Bool, true, false, ◌&&◌, ◌||◌, List, [], ◌∷◌, ◌++◌, length, take, drop, map}
+use Rattle.std.specs.Prelude.{◌≡◌, ℕ, ◌+◌, ◌-◌, ◌*◌, ◌/◌, ◌%◌, ◌<◌, ◌≤◌, Bool, true, false, ◌&&◌, ◌||◌}
+use Rattle.std.specs.Prelude.{List, [], ◌∷◌, ◌++◌, length, take, drop, map}
 use Rattle.std.specs.Prelude.{Option, Some, None, if◌then◌else◌, ◌==◌, nat_lt, nat_le}
-use Rattle.machine_model.specs.Paths.{RiscProgram, Span, span}
+use Rattle.machine_model.specs.Paths.{RiscProgram, Span, all_words, span}
+use Rattle.risc_verify.specs.Programs.{word_of}
 use Rattle.risc_verify.specs.declared.spans.SpanPlace.{SpanPlace}
 
 -- the spans with one word more at the end of the last
@@ -45,3 +47,10 @@ stands_from before (s ∷ rest) p =
 -- a place where a span of the program is, or none
 abbrev pub IsNear : RiscProgram → SpanPlace → Type 0
 IsNear program p = (p.count == 0 || stands_from 0 program.spans p) ≡ true
+
+-- an address by the number of its word among those up to the end of the span at a place; behind the last of them no word is
+pub record IsAt (program : RiscProgram) (p : SpanPlace) (words : List ℕ) (number address : ℕ) : Type 0 where
+  pub near : IsNear program p
+  pub part : words ≡ take (p.first + p.count) (all_words program)
+  pub there : number < length words → number_in p address ≡ Some number
+  pub none : length words ≤ number → word_of program address ≡ None

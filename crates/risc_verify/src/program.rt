@@ -2,7 +2,7 @@
 
 ghost use Rattle.machine_model.specs.Paths.{AreApart, BeginsAtWord, IsProgram, IsSound, all_words, begins_at_base, fetch, is_word};
 ghost use Rattle.machine_model.specs.Paths.{max_spans, max_words, one_span, shares_byte, words_of};
-ghost use Rattle.risc_verify.specs.Places.{IsNear, number_in};
+ghost use Rattle.risc_verify.specs.Places.{IsAt, IsNear, number_in};
 ghost use Rattle.risc_verify.specs.Programs.{word_of};
 ghost use Rattle.risc_word.specs.Words.{IsInstr, instr_at};
 ghost use Rattle.std.specs.List.{All};
@@ -175,10 +175,32 @@ impl Program {
         requires there { number_in near address ≡ Some word }
         ensures value { instr_at result.now word ≡ fetch self.now address }
         ensures inside { address < 2 ^ 32 }
+        ensures at { IsAt self.now near result.now word address }
     {
         // the call brings in what each program keeps
         let _base = self.base();
         &self.words()[..near.end()]
+    }
+
+    // The instruction at an address, whose word is one of these, and its length in words.
+    #[inline(always)]
+    pub(crate) fn instr_on(
+        &self,
+        near: SpanPlace,
+        words: &[u32],
+        word: usize,
+        address: u64,
+    ) -> Result<(Instr, u8), WordFault>
+        requires at { IsAt self.now near words.now word address }
+        requires inside { word < length words.now }
+        ensures value { result ≡ fetch self.now address }
+        ensures low { address < 2 ^ 32 }
+        ensures within { IfOk result (λ read. word + read.1 ≤ length words.now) }
+        ensures behind { IfOk result (λ read. IsAt self.now near words.now (word + read.1) (address + 4 * read.1)) }
+    {
+        // the call brings in what each program keeps
+        let _base = self.base();
+        decode(words, word)
     }
 
     /// The instruction at an address and its length in words. The span at the place `near` is looked at first; after it

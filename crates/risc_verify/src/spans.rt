@@ -3,7 +3,7 @@
 ghost use Rattle.machine_model.specs.Paths.{AreApart, RiscProgram, begins_at, Span, max_words, span, spans_of, words_of};
 ghost use Rattle.risc_verify.specs.Programs.{number_from};
 ghost use Rattle.risc_verify.specs.declared.spans.SpanPlace.{SpanPlace};
-ghost use Rattle.risc_verify.specs.Places.{IsNear, stands_from, has_address, number_in, place_end, with_word};
+ghost use Rattle.risc_verify.specs.Places.{IsNear, stands_from, has_address, number_in, place, place_end, with_word};
 ghost use Rattle.std.specs.List.{prefix_len, slice_get};
 ghost use Rattle.std.specs.Option.{option_to_list};
 ghost use Rattle.std.specs.List.Sorted.{IsNonDecreasingBy};
@@ -26,6 +26,14 @@ impl SpanPlace {
     /// The place of no span: no word is there.
     pub fn none() -> SpanPlace
         ensures { (program : RiscProgram) → IsNear program result }
+    {
+        SpanPlace::empty()
+    }
+
+    // The same, before the first word.
+    pub(crate) fn empty() -> SpanPlace
+        ensures near { (program : RiscProgram) → IsNear program result }
+        ensures place { result ≡ place 0 0 0 }
     {
         SpanPlace {
             at: 0,

@@ -6,11 +6,11 @@ ghost use Rattle.risc_verify.specs.Marks.{IsKnown, IsPlain, is_marked};
 ghost use Rattle.risc_verify.specs.Rounds.{enough_places};
 ghost use Rattle.risc_verify.specs.Verdicts.{HasCounted, Refuses};
 ghost use Rattle.risc_verify.specs.declared.walk.Why.TheVariants.{Memory};
-ghost use Rattle.std.specs.Prelude.{◌≡◌, ℕ, ◌+◌, ◌<◌, ◌≤◌, ◌⊎◌, IfErr, IfOk, IfSome, IsTrue, length, false, replicate};
+ghost use Rattle.std.specs.Prelude.{◌≡◌, ℕ, ◌+◌, ◌<◌, ◌≤◌, ◌⊎◌, IfErr, IfOk, IsTrue, Some, length, false, replicate};
 
-use super::judge::{PathPlace, step};
+use super::judge::{Next, PathPlace, first, step};
 use super::memo::ChunkMemo;
-use super::{Accepted, Program, SpanPlace, Steps};
+use super::{Accepted, Program, Steps};
 use machine_model::Cause;
 use std::alloc::{AllocError, Global};
 use std::marker::Model;
@@ -66,30 +66,31 @@ impl Marks {
         })
     }
 
-    // Whether the path was at this place before, whose word is known, as far as the marks show. Marks it.
-    #[inline]
-    fn meet(&mut self, place: &PathPlace, word: Option<usize>) -> bool
-        requires { IfSome word (λ number. number < length self.old) }
-        ensures known { (program : RiscProgram) → word ≡ word_of program place.now.pc → IsTrue result → IsKnown program self.old place.now }
-        ensures marked { (program : RiscProgram) → word ≡ word_of program place.now.pc → (number : ℕ) → IsTrue (is_marked self.new number)
-            → IsTrue (is_marked self.old number) ⊎ IsPlain program number place.now }
+    // Whether the path was at this place before, as far as the marks show. Marks it. Its word has a number below `end`, or
+    // else no word is there.
+    #[inline(always)]
+    fn meet(&mut self, place: PathPlace, word: usize, end: usize) -> bool
+        requires { word < end → word < length self.old }
+        ensures known { (program : RiscProgram) → (word < end → word_of program place.pc ≡ Some word) → IsTrue result
+            → IsKnown program self.old place }
+        ensures marked { (program : RiscProgram) → (word < end → word_of program place.pc ≡ Some word) → (number : ℕ)
+            → IsTrue (is_marked self.new number) → IsTrue (is_marked self.old number) ⊎ IsPlain program number place }
         ensures len { length self.new ≡ length self.old }
     {
+        if word >= end {
+            return false;
+        }
         if place.target().is_some() {
             return false;
         }
-        match word {
-            Some(number) => {
-                let known = self.words[number];
-                self.words[number] = true;
-                known
-            }
-            None => false,
-        }
+        let known = self.words[word];
+        self.words[word] = true;
+        known
     }
 }
 
 // Walks until the path comes round, or to its first place that isn't fine.
+#[inline(never)]
 fn walk<L: Ledger>(alloc: Global, program: &Program, steps: &mut Steps<L>) -> Result<(), Why>
     ensures sound { IfOk result (λ _. IsSound program.now) }
     ensures refused { IfErr result (λ why. Refuses program.now why) }
@@ -99,22 +100,22 @@ fn walk<L: Ledger>(alloc: Global, program: &Program, steps: &mut Steps<L>) -> Re
     let words = program.words().len();
     let mut marks = Marks::new(alloc, words)?;
     let mut memo = ChunkMemo::new(alloc)?;
-    let mut near = SpanPlace::none();
-    let mut place = PathPlace::first(program);
+    let (mut near, mut next) = first(program);
     for nth in 0..2 * words as u64 + 1 {
-        let word = program.word_near(&mut near, place.pc());
-        if marks.meet(&place, word) {
+        let Next {
+            place,
+            number,
+            words: up_to_end,
+        } = next;
+        if marks.meet(place, number, up_to_end.len()) {
             return Ok(());
         }
         steps.tick();
-        match step(program, &mut near, &mut memo, &place, word) {
-            Ok(next) => place = next,
+        match step(program, &mut near, &mut memo, place, up_to_end, number) {
+            Ok(after) => next = after,
             Err(cause) => {
-                return Err(Why::Bad {
-                    at: place.pc(),
-                    nth,
-                    cause,
-                });
+                let at = place.pc();
+                return Err(Why::Bad { at, nth, cause });
             }
         }
     }
