@@ -63,7 +63,7 @@ fn push_spelled<const CAP: usize>(
     }
 }
 
-// The same where it is called seldom.
+// The same, for an instruction of another opcode than the one that is looked for.
 #[inline(never)]
 fn push_other<const CAP: usize>(
     text: &mut ArrayString<CAP>,
@@ -82,7 +82,7 @@ fn push_other<const CAP: usize>(
     push_spelled(text, at, words, is_plain)
 }
 
-// The same where a WRITE is looked for.
+// The same where a WRITE is looked for, whose text is made in place.
 #[inline(always)]
 fn push_first_write<const CAP: usize>(
     text: &mut ArrayString<CAP>,
@@ -116,7 +116,11 @@ fn push_first_write<const CAP: usize>(
             text.push_str("\n");
             number
         }
-        _ => push_other(text, at, words, is_plain),
+        Some(_) => push_other(text, at, words, is_plain),
+        None => {
+            push_word_line(text, at, words[0]);
+            1
+        }
     }
 }
 
@@ -143,7 +147,11 @@ fn push_first_skip<const CAP: usize>(
             text.push_str("\n");
             number
         }
-        _ => push_other(text, at, words, is_plain),
+        Some(_) => push_other(text, at, words, is_plain),
+        None => {
+            push_word_line(text, at, words[0]);
+            1
+        }
     }
 }
 
@@ -180,7 +188,11 @@ fn push_first_write_c<const CAP: usize>(
             text.push_str("\n");
             number
         }
-        _ => push_other(text, at, words, is_plain),
+        Some(_) => push_other(text, at, words, is_plain),
+        None => {
+            push_word_line(text, at, words[0]);
+            1
+        }
     }
 }
 
@@ -207,7 +219,11 @@ fn push_first_sync<const CAP: usize>(
             text.push_str("\n");
             number
         }
-        _ => push_other(text, at, words, is_plain),
+        Some(_) => push_other(text, at, words, is_plain),
+        None => {
+            push_word_line(text, at, words[0]);
+            1
+        }
     }
 }
 
@@ -245,7 +261,11 @@ fn push_first_write_123<const CAP: usize>(
             text.push_str("\n");
             number
         }
-        _ => push_other(text, at, words, is_plain),
+        Some(_) => push_other(text, at, words, is_plain),
+        None => {
+            push_word_line(text, at, words[0]);
+            1
+        }
     }
 }
 
@@ -272,7 +292,11 @@ fn push_first_skip_123<const CAP: usize>(
             text.push_str("\n");
             number
         }
-        _ => push_other(text, at, words, is_plain),
+        Some(_) => push_other(text, at, words, is_plain),
+        None => {
+            push_word_line(text, at, words[0]);
+            1
+        }
     }
 }
 
@@ -310,7 +334,11 @@ fn push_first_write_1_s_23<const CAP: usize>(
             text.push_str("\n");
             number
         }
-        _ => push_other(text, at, words, is_plain),
+        Some(_) => push_other(text, at, words, is_plain),
+        None => {
+            push_word_line(text, at, words[0]);
+            1
+        }
     }
 }
 
