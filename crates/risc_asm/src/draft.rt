@@ -5,7 +5,7 @@ ghost use Rattle.risc_text.specs.Drafts.{blank, longer, taken, with_words};
 ghost use Rattle.risc_text.specs.Readers.{Read, fields_of, line_at, named_line, word_field, words_line};
 ghost use Rattle.risc_word.specs.declared.Instr.{Instr};
 ghost use Rattle.risc_word.specs.Words.{fits};
-ghost use Rattle.std.specs.Prelude.{◌≡◌, ◌≤◌, ◌<◌, IfOk, IfSome, IsTrue, ℕ, length};
+ghost use Rattle.std.specs.Prelude.{◌≡◌, ◌≤◌, ◌<◌, ◌++◌, IfOk, IfSome, IsTrue, ℕ, length};
 
 use super::lines::read_named_line;
 use super::readers::{
@@ -41,6 +41,17 @@ fn push_all(spans: &mut Spans, words: &[u32]) -> Result<(), AllocError>
     Ok(())
 }
 
+// Appends words one by one: they are few, and a copy of all at once takes longer.
+#[inline(always)]
+fn push_few(words: &mut Vec<u32>, more: &[u32]) -> Result<(), AllocError>
+    ensures { IfOk result (λ _. words.new.items ≡ words.old.items ++ more.now) }
+{
+    for word in more {
+        words.push(*word)?;
+    }
+    Ok(())
+}
+
 impl Draft {
     pub fn new(alloc: Global) -> Draft
         ensures { seen result ≡ blank }
@@ -61,7 +72,7 @@ impl Draft {
         ensures { IfOk result (λ _. seen self.new ≡ with_words (seen self.old) words.now) }
     {
         if self.spans.len() == 0 {
-            return self.words.extend_from_slice(words);
+            return push_few(&mut self.words, words);
         }
         push_all(&mut self.spans, words)
     }

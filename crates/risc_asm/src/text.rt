@@ -142,9 +142,10 @@ fn read_on(settled: Settled, tail: &[u8]) -> Result<Result<Settled, Settled>, Al
     Ok(Err(settled))
 }
 
-// Lists words from one on again, and answers the number of the first word that has no line yet and what
-// is behind the lines, where they are at the front of a text.
+// Lists words from one on again, in place of other lines, and answers the number of the first word that has no line yet
+// and what is behind the lines, where they are at the front of a text.
 fn told_again<'a>(
+    lines: &mut Lines,
     base: u32,
     words: &[u32],
     number: usize,
@@ -154,8 +155,8 @@ fn told_again<'a>(
     requires ends { base + 4 * length words.now ≤ 2 ^ 32 }
     ensures { IfSome result (λ x. TellsMore base words.now number x.0 text.now x.1.now × (number < x.0)) }
 {
-    let mut lines = Lines::new();
-    let next = push_settled(&mut lines, base, words, number);
+    lines.clear();
+    let next = push_settled(lines, base, words, number);
     if next == number {
         return None;
     }
@@ -172,7 +173,9 @@ fn settle(settled: Settled, tail: &[u8]) -> (Settled, usize)
 {
     let mut settled = settled;
     let mut rest = tail;
+    let mut lines = Lines::new();
     while let Some((next, left)) = told_again(
+        &mut lines,
         settled.base,
         &settled.draft.words,
         settled.number,

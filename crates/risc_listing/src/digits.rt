@@ -110,7 +110,7 @@ const DECIMAL_PAIRS: [u8; 200] = *b"\
 // The last decimal digit of a number below 100.
 #[inline(always)]
 #[tactic(auto, using(crate::proofs::Decimal::unit_in_table))]
-fn unit(n: u16) -> u8
+fn unit(n: u32) -> u8
     requires { n < 100 }
     ensures { result ≡ 48 + n % 10 }
 {
@@ -120,7 +120,7 @@ fn unit(n: u16) -> u8
 // The digit before the last.
 #[inline(always)]
 #[tactic(auto, using(crate::proofs::Decimal::ten_in_table))]
-fn ten(n: u16) -> u8
+fn ten(n: u32) -> u8
     requires { n < 100 }
     ensures { result ≡ 48 + n / 10 }
 {
@@ -129,7 +129,7 @@ fn ten(n: u16) -> u8
 
 // A space and a number of one digit, and of two, three and four.
 #[inline(always)]
-pub fn one_place(n: u16) -> [u8; 2]
+pub fn one_place(n: u32) -> [u8; 2]
     requires { n < 10 }
     ensures digits { result ≡ count_text n }
     ensures text { IsUtf8 result }
@@ -138,7 +138,7 @@ pub fn one_place(n: u16) -> [u8; 2]
 }
 
 #[inline(always)]
-pub fn two_places(n: u16) -> [u8; 3]
+pub fn two_places(n: u32) -> [u8; 3]
     requires low { 10 ≤ n }
     requires high { n < 100 }
     ensures digits { result ≡ count_text n }
@@ -148,7 +148,7 @@ pub fn two_places(n: u16) -> [u8; 3]
 }
 
 #[inline(always)]
-pub fn three_places(n: u16) -> [u8; 4]
+pub fn three_places(n: u32) -> [u8; 4]
     requires low { 100 ≤ n }
     requires high { n < 1000 }
     ensures digits { result ≡ count_text n }
@@ -159,7 +159,7 @@ pub fn three_places(n: u16) -> [u8; 4]
 }
 
 #[inline(always)]
-pub fn four_places(n: u16) -> [u8; 5]
+pub fn four_places(n: u32) -> [u8; 5]
     requires low { 1000 ≤ n }
     requires high { n < 10000 }
     ensures digits { result ≡ count_text n }
@@ -169,30 +169,78 @@ pub fn four_places(n: u16) -> [u8; 5]
     [b' ', ten(front), unit(front), ten(back), unit(back)]
 }
 
+// The last four decimal digits of a number, and eight with zeros in front.
 #[inline(always)]
-pub fn five_places(n: u16) -> [u8; 6]
-    requires { 10000 ≤ n }
-    ensures digits { result ≡ count_text n }
-    ensures text { IsUtf8 result }
-{
-    let (front, back) = (n / 100 % 100, n % 100);
-    [
-        b' ',
-        b'0' + (n / 10000) as u8,
-        ten(front),
-        unit(front),
-        ten(back),
-        unit(back),
-    ]
-}
-
-// The last four decimal digits of a number.
-#[inline(always)]
-pub fn last_four(n: u16) -> [u8; 4]
+pub fn last_four(n: u32) -> [u8; 4]
     requires { n < 10000 }
     ensures digits { result ≡ last_four n }
     ensures text { IsUtf8 result }
 {
     let (front, back) = (n / 100, n % 100);
     [ten(front), unit(front), ten(back), unit(back)]
+}
+
+#[inline(always)]
+fn eight_digits(n: u32) -> [u8; 8]
+    requires { n < 100000000 }
+    ensures { result ≡ last_four (n / 10000) ++ last_four (n % 10000) }
+{
+    let (front, back) = (n / 10_000, n % 10_000);
+    let (first, second) = (front / 100, front % 100);
+    let (third, fourth) = (back / 100, back % 100);
+    [
+        ten(first),
+        unit(first),
+        ten(second),
+        unit(second),
+        ten(third),
+        unit(third),
+        ten(fourth),
+        unit(fourth),
+    ]
+}
+
+// A space and a number of five digits, and of six, seven and eight.
+#[inline(always)]
+pub fn five_places(n: u32) -> [u8; 6]
+    requires low { 10000 ≤ n }
+    requires high { n < 100000 }
+    ensures digits { result ≡ count_text n }
+    ensures text { IsUtf8 result }
+{
+    let d = eight_digits(n);
+    [b' ', d[3], d[4], d[5], d[6], d[7]]
+}
+
+#[inline(always)]
+pub fn six_places(n: u32) -> [u8; 7]
+    requires low { 100000 ≤ n }
+    requires high { n < 1000000 }
+    ensures digits { result ≡ count_text n }
+    ensures text { IsUtf8 result }
+{
+    let d = eight_digits(n);
+    [b' ', d[2], d[3], d[4], d[5], d[6], d[7]]
+}
+
+#[inline(always)]
+pub fn seven_places(n: u32) -> [u8; 8]
+    requires low { 1000000 ≤ n }
+    requires high { n < 10000000 }
+    ensures digits { result ≡ count_text n }
+    ensures text { IsUtf8 result }
+{
+    let d = eight_digits(n);
+    [b' ', d[1], d[2], d[3], d[4], d[5], d[6], d[7]]
+}
+
+#[inline(always)]
+pub fn eight_places(n: u32) -> [u8; 9]
+    requires low { 10000000 ≤ n }
+    requires high { n < 100000000 }
+    ensures digits { result ≡ count_text n }
+    ensures text { IsUtf8 result }
+{
+    let d = eight_digits(n);
+    [b' ', d[0], d[1], d[2], d[3], d[4], d[5], d[6], d[7]]
 }

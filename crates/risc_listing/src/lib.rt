@@ -4,30 +4,25 @@
 
 ghost use Rattle.arrayvec.specs.ArrayString.{array_string_len};
 ghost use Rattle.machine_model.specs.Paths.{end_of, span};
-ghost use Rattle.risc_listing.specs.Listings.{all_word_lines, base_line, chunk_line, entry_line, fill_line, line_of, listing, span_line};
-ghost use Rattle.risc_listing.specs.Listings.{span_lines, spelled, word_lines, words_of};
-ghost use Rattle.risc_listing.specs.Unnamed.{TellsPlain};
+ghost use Rattle.risc_listing.specs.Listings.{all_word_lines, base_line, chunk_line, entry_line, fill_line, listing, span_line};
+ghost use Rattle.risc_listing.specs.Listings.{span_lines, word_lines};
 ghost use Rattle.std.specs.List.{flat_map};
-ghost use Rattle.std.specs.Prelude.{All, ◌≡◌, ◌+◌, ◌*◌, ◌<◌, ◌^◌, ◌≤◌, ◌++◌, List, drop, length, slice_index, string_bytes, ℕ, IfOk};
-ghost use Rattle.std.specs.Prelude.{IfSome};
+ghost use Rattle.std.specs.Prelude.{All, ◌≡◌, ◌+◌, ◌*◌, ◌<◌, ◌^◌, ◌≤◌, ◌++◌, List, drop, length, string_bytes, ℕ, IfOk};
 
 mod digits;
+mod first_line;
 mod lines;
 mod unnamed;
 
 use arrayvec::ArrayString;
 pub use digits::space_and_address;
+use first_line::push_line;
+use lines::LONGEST_LINE;
 pub use lines::{InstrLine, code_name, push_at, push_count, push_digit, push_number};
-use lines::{LONGEST_LINE, push_instr_line, push_word_line};
 use page_table::{PageSet, is_page};
 use risc_verify::{Program, Spans};
-use risc_word::{Instr, decode};
 use std::alloc::{AllocError, Global};
 use std::fmt::Write;
-use unnamed::{
-    Opcode, are_unnamed_zero_in_counts, are_unnamed_zero_in_data, are_unnamed_zero_in_jump,
-    are_unnamed_zero_in_skip, are_unnamed_zero_in_sync, word_or_zero,
-};
 
 /// How many bytes of lines are made at once, at most.
 pub const ROOM: usize = 65_536;
@@ -37,80 +32,6 @@ pub const LONGEST_INSTR: usize = 5;
 
 /// Lines that are made at once.
 pub type Lines = ArrayString<ROOM>;
-
-// The instruction that the words begin with and its length, where they are exactly its canonical encoding.
-// `is_plain` is whether each bit that no field names is 0.
-#[inline(always)]
-fn spelled(words: &[u32], is_plain: bool) -> Option<(Instr, usize)>
-    requires { TellsPlain is_plain words.now }
-    ensures value { result ≡ spelled words.now }
-    ensures within { IfSome result (λ read. (1 ≤ read.1) × (read.1 ≤ length words.now)) }
-{
-    let Ok((instr, number)) = decode(words, 0) else {
-        return None;
-    };
-    if is_plain {
-        Some((instr, usize::from(number)))
-    } else {
-        None
-    }
-}
-
-// Appends the line of the instruction or the word that words begin with, and answers how many words
-// the line is of.
-#[inline(always)]
-fn push_spelled<const CAP: usize>(
-    text: &mut ArrayString<CAP>,
-    at: u32,
-    words: &[u32],
-    is_plain: bool,
-) -> usize
-    requires plain { TellsPlain is_plain words.now }
-    requires some { 1 ≤ length words.now }
-    requires room { array_string_len text.old + 98 ≤ CAP }
-    ensures text { text.new.bytes ≡ text.old.bytes ++ line_of at (slice_index words.now 0) (spelled words.now) }
-    ensures number { result ≡ words_of (spelled words.now) }
-    ensures within { (1 ≤ result) × (result ≤ length words.now) }
-    ensures long { array_string_len text.new ≤ array_string_len text.old + 98 }
-{
-    match spelled(words, is_plain) {
-        Some((instr, number)) => {
-            push_instr_line(text, at, &instr);
-            number
-        }
-        None => {
-            push_word_line(text, at, words[0]);
-            1
-        }
-    }
-}
-
-// The same of any words. Each opcode has a branch of its own, which makes this fast.
-#[inline(always)]
-fn push_line<const CAP: usize>(text: &mut ArrayString<CAP>, at: u32, words: &[u32]) -> usize
-    requires some { 1 ≤ length words.now }
-    requires room { array_string_len text.old + 98 ≤ CAP }
-    ensures text { text.new.bytes ≡ text.old.bytes ++ line_of at (slice_index words.now 0) (spelled words.now) }
-    ensures number { result ≡ words_of (spelled words.now) }
-    ensures within { (1 ≤ result) × (result ≤ length words.now) }
-    ensures long { array_string_len text.new ≤ array_string_len text.old + 98 }
-{
-    let (first, second) = (words[0], word_or_zero(words, 1));
-    let data = are_unnamed_zero_in_data(first);
-    let skip = are_unnamed_zero_in_skip(first);
-    let counts = are_unnamed_zero_in_counts(second);
-    match Opcode::get(first) {
-        1 => push_spelled(text, at, words, data),
-        2 => push_spelled(text, at, words, skip),
-        5 => push_spelled(text, at, words, data),
-        7 => push_spelled(text, at, words, are_unnamed_zero_in_jump(first)),
-        8 => push_spelled(text, at, words, are_unnamed_zero_in_sync(first, second)),
-        9 => push_spelled(text, at, words, data && counts),
-        10 => push_spelled(text, at, words, skip && counts),
-        11 => push_spelled(text, at, words, data && counts),
-        _ => push_spelled(text, at, words, false),
-    }
-}
 
 /// Appends lines of the words from the address `base` on, as many as surely have room, beginning with the word numbered
 /// `from`, counted from 0. It answers the number of the first word that has no line yet. Where there is another word, and

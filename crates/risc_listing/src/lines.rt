@@ -9,8 +9,8 @@ ghost use Rattle.std.specs.Prelude.{◌≡◌, ◌+◌, ◌<◌, ◌≤◌, ◌+
 
 use crate::Lines;
 use crate::digits::{
-    address_and_space, five_places, four_places, last_four, one_digit, one_place,
-    space_and_address, three_places, two_digits, two_places,
+    address_and_space, eight_places, five_places, four_places, last_four, one_digit, one_place,
+    seven_places, six_places, space_and_address, three_places, two_digits, two_places,
 };
 use arrayvec::ArrayString;
 use risc_word::{Code, Ctl, Ends, Instr};
@@ -32,6 +32,17 @@ fn push_flag<const CAP: usize>(text: &mut ArrayString<CAP>, name: &str, is_set: 
     }
 }
 
+// A word in two pieces. A piece of at most four bytes is copied as one number.
+#[inline(always)]
+fn push_pieces<const CAP: usize>(text: &mut ArrayString<CAP>, first: &str, second: &str)
+    requires { array_string_len text.old + length first.now + length second.now ≤ CAP }
+    ensures bytes { text.new.bytes ≡ text.old.bytes ++ (first.now ++ second.now) }
+    ensures long { array_string_len text.new ≤ array_string_len text.old + length first.now + length second.now }
+{
+    text.push_str(first);
+    text.push_str(second);
+}
+
 /// Appends the hexadecimal digit of a number below 16.
 #[inline(always)]
 pub fn push_digit<const CAP: usize>(text: &mut ArrayString<CAP>, value: u8)
@@ -46,15 +57,15 @@ pub fn push_digit<const CAP: usize>(text: &mut ArrayString<CAP>, value: u8)
 
 // A field of four bits that is there only where it isn't 0.
 #[inline(always)]
-fn push_nibble<const CAP: usize>(text: &mut ArrayString<CAP>, name: &str, value: u8)
-    requires { array_string_len text.old + length name.now + 2 ≤ CAP }
-    ensures bytes { text.new.bytes ≡ text.old.bytes ++ nibble_text name.now value }
-    ensures long { array_string_len text.new ≤ array_string_len text.old + length name.now + 2 }
+fn push_nibble<const CAP: usize>(text: &mut ArrayString<CAP>, name: &str, mark: &str, value: u8)
+    requires { array_string_len text.old + length name.now + length mark.now + 2 ≤ CAP }
+    ensures bytes { text.new.bytes ≡ text.old.bytes ++ nibble_text (name.now ++ mark.now) value }
+    ensures long { array_string_len text.new ≤ array_string_len text.old + length name.now + length mark.now + 2 }
 {
     if value == 0 {
         return;
     }
-    text.push_str(name);
+    push_pieces(text, name, mark);
     if value < 16 {
         push_digit(text, value);
     } else {
@@ -70,8 +81,8 @@ fn push_control<const CAP: usize>(text: &mut ArrayString<CAP>, ctl: Ctl)
     ensures long { array_string_len text.new ≤ array_string_len text.old + 20 }
 {
     push_flag(text, " irq", ctl.irq);
-    push_nibble(text, " set=", ctl.set);
-    push_nibble(text, " reset=", ctl.reset);
+    push_nibble(text, " set", "=", ctl.set);
+    push_nibble(text, " res", "et=", ctl.reset);
 }
 
 #[inline(always)]
@@ -83,7 +94,7 @@ fn push_data<const CAP: usize>(text: &mut ArrayString<CAP>, ctl: Ctl, ends: Ends
     push_flag(text, " sol", ends.sol);
     push_flag(text, " eol", ends.eol);
     push_control(text, ctl);
-    push_nibble(text, " off=", off);
+    push_nibble(text, " off", "=", off);
 }
 
 /// Appends a space and a number in decimal digits.
@@ -93,6 +104,7 @@ pub fn push_count<const CAP: usize>(text: &mut ArrayString<CAP>, n: u16)
     ensures bytes { text.new.bytes ≡ text.old.bytes ++ count_text n }
     ensures long { array_string_len text.new ≤ array_string_len text.old + 6 }
 {
+    let n = u32::from(n);
     if n < 10 {
         let places = one_place(n);
         text.push_str(unsafe { str::from_utf8_unchecked(&places) });
@@ -111,9 +123,33 @@ pub fn push_count<const CAP: usize>(text: &mut ArrayString<CAP>, n: u16)
     }
 }
 
+// The same with a number of five to eight digits.
+#[inline(always)]
+fn push_long_count(text: &mut Lines, n: u32)
+    requires low { 10000 ≤ n }
+    requires high { n < 100000000 }
+    requires room { array_string_len text.old + 9 ≤ 65536 }
+    ensures bytes { text.new.bytes ≡ text.old.bytes ++ count_text n }
+    ensures long { array_string_len text.new ≤ array_string_len text.old + 9 }
+{
+    if n >= 10_000_000 {
+        let places = eight_places(n);
+        text.push_str(unsafe { str::from_utf8_unchecked(&places) });
+    } else if n >= 1_000_000 {
+        let places = seven_places(n);
+        text.push_str(unsafe { str::from_utf8_unchecked(&places) });
+    } else if n >= 100_000 {
+        let places = six_places(n);
+        text.push_str(unsafe { str::from_utf8_unchecked(&places) });
+    } else {
+        let places = five_places(n);
+        text.push_str(unsafe { str::from_utf8_unchecked(&places) });
+    }
+}
+
 // Appends the last four decimal digits of a number.
 #[inline(always)]
-fn push_last_four(text: &mut Lines, n: u16)
+fn push_last_four(text: &mut Lines, n: u32)
     requires small { n < 10000 }
     requires room { array_string_len text.old + 4 ≤ 65536 }
     ensures { text.new.bytes ≡ text.old.bytes ++ last_four n }
@@ -133,7 +169,7 @@ fn push_long_number(text: &mut Lines, n: u64)
         push_count(text, n as u16);
     } else {
         push_long_number(text, n / 10_000);
-        push_last_four(text, (n % 10_000) as u16);
+        push_last_four(text, (n % 10_000) as u32);
     }
 }
 
@@ -147,9 +183,7 @@ pub fn push_number(text: &mut Lines, n: u64)
     if n < 10_000 {
         push_count(text, n as u16);
     } else if n < 100_000_000 {
-        let short = n as u32;
-        push_count(text, (short / 10_000) as u16);
-        push_last_four(text, (short % 10_000) as u16);
+        push_long_count(text, n as u32);
     } else {
         push_long_number(text, n);
     }
@@ -193,23 +227,24 @@ fn push_addresses<const CAP: usize>(text: &mut ArrayString<CAP>, addrs: &[u32; 3
 fn push_planar<const CAP: usize>(
     text: &mut ArrayString<CAP>,
     name: &str,
+    planes: &str,
     ctl: Ctl,
     ends: Ends,
     off: u8,
     counts: &[u16; 3],
 )
-    requires { array_string_len text.old + length name.now + 53 ≤ CAP }
-    ensures bytes { text.new.bytes ≡ text.old.bytes ++ (name.now ++ (data_text ctl ends off ++ counts_text counts.now)) }
-    ensures long { array_string_len text.new ≤ array_string_len text.old + length name.now + 53 }
+    requires { array_string_len text.old + length name.now + length planes.now + 53 ≤ CAP }
+    ensures bytes { text.new.bytes ≡ text.old.bytes ++ ((name.now ++ planes.now) ++ (data_text ctl ends off ++ counts_text counts.now)) }
+    ensures long { array_string_len text.new ≤ array_string_len text.old + length name.now + length planes.now + 53 }
 {
-    text.push_str(name);
+    push_pieces(text, name, planes);
     push_data(text, ctl, ends, off);
     push_counts(text, counts);
 }
 
 // The address that a line begins with, and a space.
 #[inline(always)]
-fn push_head<const CAP: usize>(text: &mut ArrayString<CAP>, at: u32)
+pub fn push_head<const CAP: usize>(text: &mut ArrayString<CAP>, at: u32)
     requires { array_string_len text.old + 9 ≤ CAP }
     ensures bytes { text.new.bytes ≡ text.old.bytes ++ (address_text at ++ codes " ") }
     ensures long { array_string_len text.new ≤ array_string_len text.old + 9 }
@@ -231,23 +266,25 @@ pub fn code_name(code: Code) -> &'static str
     }
 }
 
-// The text of a SYNC. It and those of the other instructions are never inlined, so that the path from each opcode to
-// its line is short.
-#[inline(never)]
-fn push_sync<const CAP: usize>(text: &mut ArrayString<CAP>, ctl: Ctl, resync: bool, code: Code)
+// The text of a SYNC. It and those of the other instructions are inlined where the opcode is known: so each field is tested
+// where it is in its word.
+#[inline(always)]
+pub fn push_sync<const CAP: usize>(text: &mut ArrayString<CAP>, ctl: Ctl, resync: bool, code: Code)
     requires { array_string_len text.old + 88 ≤ CAP }
     ensures bytes { text.new.bytes ≡ text.old.bytes ++ instr_text (Sync ctl resync code) }
     ensures long { array_string_len text.new ≤ array_string_len text.old + 88 }
 {
-    text.push_str("sync ");
+    push_pieces(text, "sync", " ");
     text.push_str(code_name(code));
-    push_flag(text, " resync", resync);
+    if resync {
+        push_pieces(text, " res", "ync");
+    }
     push_control(text, ctl);
 }
 
 // The text of a WRITE.
-#[inline(never)]
-fn push_write<const CAP: usize>(
+#[inline(always)]
+pub fn push_write<const CAP: usize>(
     text: &mut ArrayString<CAP>,
     ctl: Ctl,
     ends: Ends,
@@ -259,15 +296,15 @@ fn push_write<const CAP: usize>(
     ensures bytes { text.new.bytes ≡ text.old.bytes ++ instr_text (Write ctl ends off count addr) }
     ensures long { array_string_len text.new ≤ array_string_len text.old + 88 }
 {
-    text.push_str("write");
+    push_pieces(text, "writ", "e");
     push_data(text, ctl, ends, off);
     push_count(text, count);
     push_at(text, addr);
 }
 
 // The text of a SKIP.
-#[inline(never)]
-fn push_skip<const CAP: usize>(text: &mut ArrayString<CAP>, ctl: Ctl, ends: Ends, count: u16)
+#[inline(always)]
+pub fn push_skip<const CAP: usize>(text: &mut ArrayString<CAP>, ctl: Ctl, ends: Ends, count: u16)
     requires { array_string_len text.old + 88 ≤ CAP }
     ensures bytes { text.new.bytes ≡ text.old.bytes ++ instr_text (Skip ctl ends count) }
     ensures long { array_string_len text.new ≤ array_string_len text.old + 88 }
@@ -278,8 +315,8 @@ fn push_skip<const CAP: usize>(text: &mut ArrayString<CAP>, ctl: Ctl, ends: Ends
 }
 
 // The text of a WRITEC.
-#[inline(never)]
-fn push_write_c<const CAP: usize>(
+#[inline(always)]
+pub fn push_write_c<const CAP: usize>(
     text: &mut ArrayString<CAP>,
     ctl: Ctl,
     ends: Ends,
@@ -290,7 +327,7 @@ fn push_write_c<const CAP: usize>(
     ensures bytes { text.new.bytes ≡ text.old.bytes ++ instr_text (WriteC ctl ends off count) }
     ensures long { array_string_len text.new ≤ array_string_len text.old + 88 }
 {
-    text.push_str("writec");
+    push_pieces(text, "writ", "ec");
     push_data(text, ctl, ends, off);
     push_count(text, count);
 }
@@ -308,8 +345,8 @@ fn push_jump<const CAP: usize>(text: &mut ArrayString<CAP>, ctl: Ctl, target: u3
 }
 
 // The text of a WRITE123.
-#[inline(never)]
-fn push_write_123<const CAP: usize>(
+#[inline(always)]
+pub fn push_write_123<const CAP: usize>(
     text: &mut ArrayString<CAP>,
     ctl: Ctl,
     ends: Ends,
@@ -321,13 +358,13 @@ fn push_write_123<const CAP: usize>(
     ensures bytes { text.new.bytes ≡ text.old.bytes ++ instr_text (Write123 ctl ends off counts.now addrs.now) }
     ensures long { array_string_len text.new ≤ array_string_len text.old + 88 }
 {
-    push_planar(text, "write123", ctl, ends, off, counts);
+    push_planar(text, "writ", "e123", ctl, ends, off, counts);
     push_addresses(text, addrs);
 }
 
 // The text of a SKIP123.
-#[inline(never)]
-fn push_skip_123<const CAP: usize>(
+#[inline(always)]
+pub fn push_skip_123<const CAP: usize>(
     text: &mut ArrayString<CAP>,
     ctl: Ctl,
     ends: Ends,
@@ -337,12 +374,12 @@ fn push_skip_123<const CAP: usize>(
     ensures bytes { text.new.bytes ≡ text.old.bytes ++ instr_text (Skip123 ctl ends counts.now) }
     ensures long { array_string_len text.new ≤ array_string_len text.old + 88 }
 {
-    push_planar(text, "skip123", ctl, ends, 0, counts);
+    push_planar(text, "skip", "123", ctl, ends, 0, counts);
 }
 
 // The text of a WRITE1S23.
-#[inline(never)]
-fn push_write_1_s_23<const CAP: usize>(
+#[inline(always)]
+pub fn push_write_1_s_23<const CAP: usize>(
     text: &mut ArrayString<CAP>,
     ctl: Ctl,
     ends: Ends,
@@ -354,7 +391,7 @@ fn push_write_1_s_23<const CAP: usize>(
     ensures bytes { text.new.bytes ≡ text.old.bytes ++ instr_text (Write1S23 ctl ends off counts.now addr) }
     ensures long { array_string_len text.new ≤ array_string_len text.old + 88 }
 {
-    push_planar(text, "write1s23", ctl, ends, off, counts);
+    push_planar(text, "write1s2", "3", ctl, ends, off, counts);
     push_at(text, addr);
 }
 

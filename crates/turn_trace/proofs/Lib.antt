@@ -2,4 +2,3 @@ pub mod Tracings
 pub mod Lines
 mod KeptWords
 mod PieceBytes
-mod CountDigits

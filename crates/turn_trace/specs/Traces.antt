@@ -113,6 +113,7 @@ words Turn m = turn_words m.turns (seen m) (next_drop m) (taken m)
 abbrev pub level_text : Queue → State → List ℕ
 level_text q m = count_text (length (queue_state q m.queues).entries)
 
+-- how many entries each of the three queues holds
 abbrev pub levels_text : State → List ℕ
 levels_text m = level_text One m ++ (level_text Two m ++ level_text Three m)
 

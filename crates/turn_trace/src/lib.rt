@@ -10,7 +10,6 @@ ghost use Rattle.std.specs.Prelude.{◌≡◌, ◌+◌, ◌-◌, ◌<◌, ◌≤
 ghost use Rattle.sync_status.specs.Statuses.{is_control, kind_of};
 ghost use Rattle.turn_trace.specs.Traces.{after_all, last_line, lines, tracing};
 
-mod counts;
 pub mod laws;
 mod pieces;
 mod words;

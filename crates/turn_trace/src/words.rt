@@ -9,7 +9,6 @@ ghost use Rattle.turn_trace.specs.Kept.{kept_words};
 ghost use Rattle.turn_trace.specs.Traces.{bit_text, control_words, did_words, dropped_words, entry_words, fate, given_up_words};
 ghost use Rattle.turn_trace.specs.Traces.{levels_text, moved_words, numbers, queue_name, status_name, still_line, turn_words, write_words};
 
-use crate::counts::{end_of_eight, end_of_seven, turn_of_eight, turn_of_seven};
 use crate::pieces::{KeptAddress, burst_words, pixel_words, still_words, three_digits};
 use dma_machine::{Did, Machine, Told};
 use fifo_model::{Entry, Pushed, Queue};
@@ -227,25 +226,6 @@ fn push_seen_words(text: &mut Lines, drops: Option<Queue>, told: Told, kept: &mu
     push_did(text, told.seen.did, drops, told.taken);
 }
 
-// How many turns were taken before one, as its line begins: in a long trace mostly a number of seven or eight digits.
-#[inline(always)]
-fn push_turn_count(text: &mut Lines, turns: u64)
-    requires { array_string_len text.old + 25 ≤ 65536 }
-    ensures bytes { text.new.bytes ≡ text.old.bytes ++ (codes "turn" ++ count_text turns) }
-    ensures long { array_string_len text.new ≤ array_string_len text.old + 25 }
-{
-    if turns >= 10_000_000 && turns < 100_000_000 {
-        let words = turn_of_eight(turns as u32);
-        text.push_str(unsafe { str::from_utf8_unchecked(&words) });
-    } else if turns >= 1_000_000 && turns < 10_000_000 {
-        let words = turn_of_seven(turns as u32);
-        text.push_str(unsafe { str::from_utf8_unchecked(&words) });
-    } else {
-        text.push_str("turn");
-        push_number(text, turns);
-    }
-}
-
 /// Appends the words of a turn: how many were taken before, the queue from which it dropped an entry, and what it did.
 #[inline(always)]
 pub fn push_turn_words(
@@ -259,7 +239,8 @@ pub fn push_turn_words(
     ensures bytes { text.new.bytes ≡ text.old.bytes ++ turn_words turns told.seen drops told.taken }
     ensures long { array_string_len text.new ≤ array_string_len text.old + 70 }
 {
-    push_turn_count(text, turns);
+    text.push_str("turn");
+    push_number(text, turns);
     push_seen_words(text, drops, told, kept);
 }
 
@@ -280,25 +261,6 @@ fn push_levels<R: Ram>(text: &mut Lines, machine: &Machine<R>)
         push_count(text, one);
         push_count(text, two);
         push_count(text, three);
-    }
-}
-
-// How many bytes were stored, as a line ends: in a long trace mostly a number of seven or eight digits.
-#[inline(always)]
-fn push_moved_and_end(text: &mut Lines, moved: u64)
-    requires { array_string_len text.old + 22 ≤ 65536 }
-    ensures bytes { text.new.bytes ≡ text.old.bytes ++ (count_text moved ++ line_end) }
-    ensures long { array_string_len text.new ≤ array_string_len text.old + 22 }
-{
-    if moved >= 10_000_000 && moved < 100_000_000 {
-        let words = end_of_eight(moved as u32);
-        text.push_str(unsafe { str::from_utf8_unchecked(&words) });
-    } else if moved >= 1_000_000 && moved < 10_000_000 {
-        let words = end_of_seven(moved as u32);
-        text.push_str(unsafe { str::from_utf8_unchecked(&words) });
-    } else {
-        push_number(text, moved);
-        text.push_str("\n");
     }
 }
 
@@ -371,7 +333,8 @@ pub fn push_numbers<R: Ram>(text: &mut Lines, machine: &Machine<R>, kept: &mut K
     kept.keep(machine.pc(), report.int_stat);
     kept.append(text);
     push_levels(text, machine);
-    push_moved_and_end(text, report.moved);
+    push_number(text, report.moved);
+    text.push_str("\n");
 }
 
 // The line of so many turns of which nothing was seen: mostly a number of two digits.

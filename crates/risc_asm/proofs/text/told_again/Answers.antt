@@ -14,6 +14,6 @@ returns c =
           (λ later. ap (λ (list : List ℕ). list ++ word_lines (c.args.base + 4 * next) 0 (drop next (words ++ later))) piece_is
           ∙ c.push_settled-next.ensures.lines later
           ∙ ap (λ (list : List ℕ). list ++ word_lines (c.args.base + 4 * c.args.number) 0 (drop c.args.number (words ++ later)))
-          c.new-lines.ensures),
+          c.clear.ensures),
       omega (arith, w.0, c.if-next-number.false),
     )

@@ -1,15 +1,10 @@
-use Rattle.std.proofs.Common.{◌≡◌, ◌/◌, ◌%◌, arith, sym, subst}
+use Rattle.std.proofs.Common.{arith, sym, subst}
 use Rattle.std.specs.Str.{IsUtf8}
-use Rattle.risc_listing.proofs.Decimal.{five_digits, count_text-IsUtf8}
+use Rattle.risc_listing.proofs.Decimal.{five_spelled, count_text-IsUtf8}
 use Rattle.risc_listing.proofs.digits.five_places.Goals as goal
 
 pub returns-clause-digits : goal.returns-clause-digits
-returns-clause-digits c =
-    let thousands : c.args.n / 100 % 100 / 10 ≡ c.args.n / 1000 % 10 = omega arith in
-    let hundreds : c.args.n / 100 % 100 % 10 ≡ c.args.n / 100 % 10 = omega arith in
-    let tens : c.args.n % 100 / 10 ≡ c.args.n / 10 % 10 = omega arith in
-    let units : c.args.n % 100 % 10 ≡ c.args.n % 10 = omega arith in
-    cc (five_digits c.args.n (omega arith) (omega arith), thousands, hundreds, tens, units)
+returns-clause-digits c = five_spelled c.args.n c.eight_digits-d.result c.eight_digits-d.ensures c.requires.low c.requires.high
 
 pub returns-clause-text : goal.returns-clause-text
 returns-clause-text c = subst IsUtf8 (sym (returns-clause-digits c)) (count_text-IsUtf8 c.args.n (omega arith))

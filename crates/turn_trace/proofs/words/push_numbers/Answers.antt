@@ -14,7 +14,8 @@ returns-clause-bytes g c =
     let old = c.args.text.now.bytes in
     let front = c.append.new.text.bytes in
     let levels = c.push_levels.new.text.bytes in
-    let new = c.push_moved_and_end.new.text.bytes in
+    let counted = c.push_number.new.text.bytes in
+    let new = c.push_str.new.self.bytes in
     let kept_is : front ≡ old ++ kept_words m.pc m.interrupts =
     c.append.ensures.bytes
     ∙ ap (λ (k : ℕ × ℕ). old ++ kept_words k.0 k.1) c.keep.ensures
@@ -23,7 +24,8 @@ returns-clause-bytes g c =
     let last = count_text m.moved ++ line_end in
     let first = level_text One m ++ (level_text Two m ++ (level_text Three m ++ last)) in
     let last_is : new ≡ levels ++ last =
-    c.push_moved_and_end.ensures.bytes ∙ ap (λ (r : Report). levels ++ (count_text r.moved ++ line_end)) c.report-report.ensures.report in
+    appended levels counted new (count_text c.report-report.result.moved) line_end c.push_number.ensures.bytes c.push_str.ensures.bytes
+    ∙ ap (λ (r : Report). levels ++ (count_text r.moved ++ line_end)) c.report-report.ensures.report in
     appended old front new (kept_words m.pc m.interrupts) (levels_text m ++ last) kept_is
     (appended front levels new (levels_text m) last c.push_levels.ensures.bytes last_is)
     ∙ ap (λ (list : List ℕ). old ++ (kept_words m.pc m.interrupts ++ list))

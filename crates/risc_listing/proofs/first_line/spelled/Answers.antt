@@ -1,7 +1,7 @@
 use Rattle.std.proofs.Common.{◌∙◌, sym, ap, arith, true, false}
 use Rattle.std.specs.Prelude.{Some}
 use Rattle.risc_listing.proofs.OneSpelling.{spelled_where}
-use Rattle.risc_listing.proofs.spelled.Goals as goal
+use Rattle.risc_listing.proofs.first_line.spelled.Goals as goal
 
 pub returns-then-is_plain-clause-value : goal.returns-then-is_plain-clause-value
 returns-then-is_plain-clause-value c =

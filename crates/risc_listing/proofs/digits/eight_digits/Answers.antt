@@ -1,5 +1,5 @@
 use Rattle.std.proofs.Common.{◌≡◌, ◌/◌, ◌%◌, arith}
-use Rattle.turn_trace.proofs.counts.eight_digits.Goals as goal
+use Rattle.risc_listing.proofs.digits.eight_digits.Goals as goal
 
 pub returns : goal.returns
 returns c =
