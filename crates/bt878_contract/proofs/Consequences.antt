@@ -34,7 +34,7 @@ use Rattle.chain_model.specs.Chains.{Chain}
 use Rattle.chain_model.specs.Live.{LiveStep}
 use Rattle.chain_law.specs.Runs.{KeepsLivePromises}
 use Rattle.stream_play.specs.Runs.{IsRun, LiveRan, OfRun, Ran, chain_ran, live_steps_of}
-use Rattle.stream_play.proofs.Fitting.{steps_fit}
+use Rattle.stream_play.proofs.Fitting.{all_fit, steps_fit}
 use Rattle.command_steps.proofs.Inputs.{OfInput-map}
 use Rattle.command_inputs.specs.Descriptions.{GivesCompiled, GivesDescribed}
 use Rattle.command_inputs.specs.Listings.{GivesAssembled}
@@ -47,7 +47,10 @@ use Rattle.bt878_contract.specs.Tasks.{RunMakes, RunOf, TellsRows, Traces, compi
 use Rattle.bt878_contract.specs.Tasks.{names_read, names_written, no_file, program_and_image, program_file, program_text, sources}
 use Rattle.bt878_contract.specs.Clauses.{AreTold, CreatesNone, IsAssembled, IsBadInput, IsCompiled, IsCut, IsInOrder, IsGenerated, IsGood}
 use Rattle.bt878_contract.specs.Clauses.{IsOutput, IsRefusal, IsUnreadOf, IsUsage, OfDesc, OfDescRun}
-use Rattle.double_buffer.proofs.Pairs.{shows}
+use Rattle.double_buffer.proofs.Pairs.{are_fragments, is as is_chain, shows}
+use Rattle.double_buffer.proofs.Promising.{plays_are_live}
+use Rattle.chain_damage.specs.Rows.{LiveRunHoldsWholeRows}
+use Rattle.chain_damage.proofs.Held.{live_runs_hold_whole_rows}
 use Rattle.bt878_contract.specs.Chains.{HasFragments}
 use Rattle.bt878_contract.specs.Clauses.{IsShort, LacksFirst, LacksInput}
 use Rattle.bt878_contract.specs.Clauses.{OfLive, OfLiveBy, OfLiveRun, OfLiveSteps, OfRan, OfRanBy, OfRingRun, OfSteps, OnlyOutputs}
@@ -151,6 +154,16 @@ module _ (P : Chain → ℕ → List LiveStep → Type 0)
   pub done_live : (r : Result Task UsageFault) (answer : Answer) (old new : Seen) → Answers r answer old new → answer ≡ Done →
       OfLive r old.told.inputs (OfLiveSteps P)
   done_live = live_by (OfLiveSteps P) (λ a b c r is kept. promised (chain_ran r) r.first.fill (live_steps_of r) kept)
+
+-- each row that is whole at a signal holds its line
+pub done_live_rows : (r : Result Task UsageFault) (answer : Answer) (old new : Seen) → Answers r answer old new → answer ≡ Done →
+    OfLive r old.told.inputs (OfLiveSteps LiveRunHoldsWholeRows)
+done_live_rows =
+    live_by (OfLiveSteps LiveRunHoldsWholeRows)
+    (λ a b c r is kept.
+    live_runs_hold_whole_rows (chain_ran r) r.first.fill (live_steps_of r) (is_chain r.first r.second is.gives.pair)
+    (are_fragments r.first r.second is.gives.pair)
+    (plays_are_live r.first r.second r.steps (all_fit true c r.steps is.reads)))
 
 -- its parts are the fragments of its descriptions
 pub done_fragments : (r : Result Task UsageFault) (answer : Answer) (old new : Seen) → Answers r answer old new → answer ≡ Done →

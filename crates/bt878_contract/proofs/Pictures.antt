@@ -12,7 +12,7 @@ use Rattle.machine_model.proofs.Runs.{IsOrderly-run}
 use Rattle.std.proofs.lemmas.List.Elements.{All-drop, All-take}
 use Rattle.capture_desc.specs.declared.desc.Desc.{Desc}
 use Rattle.picture_model.specs.Described.{field_height}
-use Rattle.picture_model.specs.Programs.{compiled}
+use Rattle.picture_model.specs.Programs.{compiled, section_begin}
 use Rattle.field_law.specs.Arrivals.{is_signal}
 use Rattle.picture_law.specs.Pictures.{Picture}
 use Rattle.picture_law.specs.Sections.{section_of}
@@ -20,11 +20,12 @@ use Rattle.picture_law.specs.Runs.{IsCapture, IsSignalled, between}
 use Rattle.picture_law.proofs.Places.{run_shows_picture, run_tells_field}
 use Rattle.damage_law.specs.Marks.{answer, last_step, marks}
 use Rattle.damage_law.proofs.LastSignals.{answers_stay}
+use Rattle.damage_map.specs.Asked.{HoldsLine}
 use Rattle.damage_map.proofs.ArrivedFields.{arrived_rows_are_whole}
 use Rattle.damage_map.proofs.StandingRows.{whole_rows_stand, whole_rows_took_asked}
 use Rattle.damage_law.proofs.EnteredRows.{whole_rows_entered}
 use Rattle.damage_law.specs.Standing.{HaveEntered, IsSignalSince, row_entries}
-use Rattle.bt878_contract.specs.Rows.{HasArrivedRows, HoldsRow, HoldsWholeRows, IsSignalFrom}
+use Rattle.bt878_contract.specs.Rows.{HasArrivedRows, HoldsWholeRows, IsSignalFrom}
 use Rattle.check_law.specs.Laws.{Found}
 use Rattle.check_law.specs.Runs.{IsCapture as FoundCapture, IsEnded}
 use Rattle.check_law.proofs.Places.{run_shows_picture as found_shows_picture, run_shows_no_fault as found_shows_no_fault}
@@ -101,7 +102,7 @@ module _ (program : RiscProgram) (fill : ℕ) (steps : List Step) (made : All Is
       HaveEntered (row_entries d field number q m (between j k steps)) q m (between j k steps)
   row_entered d field q number j k =
       let start = first_state (compiled d) fill in
-      whole_rows_entered d field (state_at start steps j) (between j k steps)
+      whole_rows_entered (section_begin d d.base field) d field (state_at start steps j) (between j k steps)
       (IsOrderly-run start (take j steps) (All-take IsStep j steps made) (IsOrderly-first_state (compiled d) fill))
       (All-take IsStep (k - j) (drop j steps) (All-drop IsStep j steps made)) q number
 
@@ -111,7 +112,8 @@ module _ (program : RiscProgram) (fill : ℕ) (steps : List Step) (made : All Is
       (λ (p : RiscProgram).
       IsSignalFrom d field (first_state p fill) steps j k → (q : Queue) (number : ℕ) →
       slice_index_or (marks d field (state_at (first_state p fill) steps j) (between j k steps)) number false ≡ true →
-      HoldsRow d field q number (first_state p fill) steps j k)
+      HoldsLine (section_begin d d.base field) d field q number (state_at (first_state p fill) steps j) (between j k steps)
+      (state_at (first_state p fill) steps (k + 1)))
       (sym c.same) (λ s q number whole.
       let since : IsSignalSince d field fill steps j k = record {
         description = c.description;

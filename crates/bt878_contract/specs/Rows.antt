@@ -9,14 +9,13 @@ use Rattle.machine_model.specs.Steps.{Step, state_at}
 use Rattle.capture_desc.specs.declared.desc.Desc.{Desc}
 use Rattle.picture_model.specs.Described.{IsDescription, describes, field_height}
 use Rattle.picture_model.specs.Geometry.{IsValid}
-use Rattle.picture_model.specs.Programs.{compiled}
+use Rattle.picture_model.specs.Programs.{compiled, section_begin}
 use Rattle.field_law.specs.Arrivals.{is_signal}
-use Rattle.picture_law.specs.Pictures.{IsKeptAt, Picture, of_row}
+use Rattle.picture_law.specs.Pictures.{Picture}
 use Rattle.picture_law.specs.Runs.{between, signals_at}
 use Rattle.picture_law.specs.Sections.{section_of}
 use Rattle.damage_law.specs.Marks.{answer, is_opening, last_step, marks}
-use Rattle.damage_law.specs.Standing.{HaveEntered, StandsAt, row_entries}
-use Rattle.damage_map.specs.Asked.{AreAsked}
+use Rattle.damage_map.specs.Asked.{HoldsLine}
 use Rattle.bt878_contract.specs.Pictures.{ArrivesUpTo, IsCompiled}
 
 -- where a picture arrives up to step k, and this is the field's last signal, every row of the field is whole
@@ -39,21 +38,10 @@ pub record IsSignalFrom (d : Desc) (field : Parity) (first : State) (steps : Lis
   pub signal : signals_at (section_of d field) first steps k ≡ true
   pub opened : last_step (is_opening d field) first (take k steps) ≡ Some j
 
--- The entries that the row's instructions took from a queue since the opening entered it one after another, and are what the
--- description asks of the queue for a row. Right after the signal each byte of the row that is kept is at its place, and is that byte
--- of the line that these entries are.
-pub record HoldsRow (d : Desc) (field : Parity) (q : Queue) (number : ℕ) (first : State) (steps : List Step) (j k : ℕ) : Type 0 where
-  pub entered :
-      HaveEntered (row_entries d field number q (state_at first steps j) (between j k steps)) q (state_at first steps j) (between j k steps)
-  pub asked : AreAsked d q (row_entries d field number q (state_at first steps j) (between j k steps))
-  pub kept :
-      (x address : ℕ) → IsKeptAt d field (of_row q number x) address →
-      StandsAt (row_entries d field number q (state_at first steps j) (between j k steps)) x address (state_at first steps (k + 1))
-
--- so it is with each whole row at each signal of a field
+-- right after each signal of a field each row that is whole over the steps since its opening holds its line
 abbrev pub HoldsWholeRows : State → List Step → Type 0
 HoldsWholeRows first steps =
     (d : Desc) (field : Parity) (j k : ℕ) → IsFieldOf first.program d field → IsSignalFrom d field first steps j k →
     (q : Queue) (number : ℕ) →
     slice_index_or (marks d field (state_at first steps j) (between j k steps)) number false ≡ true →
-    HoldsRow d field q number first steps j k
+    HoldsLine (section_begin d d.base field) d field q number (state_at first steps j) (between j k steps) (state_at first steps (k + 1))

@@ -14,6 +14,7 @@ ghost use Rattle.bt878_contract.specs.Rings.{RingsShowNoFault, ShowsRings};
 ghost use Rattle.bt878_contract.specs.Tasks.{Answers, AreAllowed, AreNames, Ends, IsProduct, inputs_of, names_read, names_written, reads};
 ghost use Rattle.bt878_top.specs.Products.{product_of};
 ghost use Rattle.bt878_contract.specs.Chains.{HasFragments};
+ghost use Rattle.chain_damage.specs.Rows.{LiveRunHoldsWholeRows};
 ghost use Rattle.chain_law.specs.Runs.{LiveRunShowsNoFault, LiveRunShowsPictures, LiveRunSignalsInTime, LiveRunStaysInside};
 ghost use Rattle.command_texts.specs.declared.refusal.Refusal.{Refusal};
 ghost use Rattle.command_texts.specs.Answers.{answer_of};
@@ -242,6 +243,15 @@ pub fn bt878<D: Desk>(alloc: Global, words: &[&str], desk: &mut D) -> Answer
         OfLive (task_of words.now) (D.seen desk.old).told.inputs (OfLiveSteps LiveRunShowsNoFault) }
     ensures live_in_time { (result ≡ Answer.Done) →
         OfLive (task_of words.now) (D.seen desk.old).told.inputs (OfLiveSteps LiveRunSignalsInTime) }
+
+    // For every such part whose description's memory the chain may write, every field of it and every signal of the field,
+    // whatever came before and is patched meanwhile: the field's section was opened before, and from its last opening to
+    // the signal the machine goes on as if nothing were patched. Of each row that is whole over these steps, right after the
+    // signal each byte that isn't clipped is at its place, where it has one, and is that byte of the line that the row's
+    // instructions took; the entries of this line entered the queue one after another, and the line is as long as the
+    // description asks. Nothing was taken of a queue for which the format has no plane.
+    ensures live_whole_rows { (result ≡ Answer.Done) →
+        OfLive (task_of words.now) (D.seen desk.old).told.inputs (OfLiveSteps LiveRunHoldsWholeRows) }
 
     // At Done of the other commands: what was written and printed.
     ensures accepted { (result ≡ Answer.Done) → (program : Word) →

@@ -1,5 +1,5 @@
 -- A machine that is at no slot goes on as if nothing were patched.
-use Rattle.std.proofs.Common.{◌≡◌, ℕ, false, ◌&&◌, List, [], ◌∷◌, length, Option, refl, sym, ap, ◌∙◌}
+use Rattle.std.proofs.Common.{◌≡◌, false, ◌&&◌, List, [], ◌∷◌, length, refl, sym, ap, ◌∙◌}
 use Rattle.std.specs.Prelude.{nat_lt}
 use Rattle.std.proofs.lemmas.Bool.{ltb-false}
 use Rattle.std.proofs.lemmas.List.{length-set}
@@ -19,9 +19,9 @@ use Rattle.chain_law.specs.Behind.{AreBehind, LivePartsAreFinished, is_at_slot, 
 use Rattle.chain_law.specs.Pictures.{between, live_of}
 use Rattle.chain_law.proofs.Meets.{live_between}
 
-module _ (chain : Chain) (part : Option ℕ) where
+module _ (chain : Chain) (kept : Patching) (kept_long : length kept ≡ chain.slots) where
   abbrev member : RiscProgram
-  member = alone chain part
+  member = patched chain kept
 
   own : (m : State) (program : RiscProgram) → m.program ≡ program → with_program program m ≡ m
   own m program e = ap (λ (p : RiscProgram). with_program p m) (sym e)
@@ -32,7 +32,7 @@ module _ (chain : Chain) (part : Option ℕ) where
   alike patching m long behind on idle =
       let low : nat_lt m.pc (slot_at chain chain.slots) ≡ false =
       sym (ap (λ job. is_idle job && nat_lt m.pc (slot_at chain chain.slots)) idle) ∙ behind in
-      behind_alike chain (alone_in chain part) patching (length-alone chain part) long m.pc (ltb-false m.pc (slot_at chain chain.slots) low)
+      behind_alike chain kept patching kept_long long m.pc (ltb-false m.pc (slot_at chain chain.slots) low)
 
   turn_same : (patching : Patching) (m : State) → m.program ≡ patched chain patching → length patching ≡ chain.slots →
       is_at_slot chain m ≡ false →
@@ -47,7 +47,7 @@ module _ (chain : Chain) (part : Option ℕ) where
       with_program member (step s m) ≡ step s (with_program member m)
   other_same s patching m other is = sym (step-with member s m other (ap (λ (p : RiscProgram). p.base) is))
 
-  step_same : (s : Step) (patching : Patching) (m : State) → m.program ≡ patched chain patching → length patching ≡ chain.slots →
+  pub step_same : (s : Step) (patching : Patching) (m : State) → m.program ≡ patched chain patching → length patching ≡ chain.slots →
       is_at_slot chain m ≡ false →
       with_program member (step s m) ≡ step s (with_program member m)
   step_same Turn patching m is long behind = turn_same patching m is long behind
@@ -69,4 +69,5 @@ pub live_parts_are_finished : LivePartsAreFinished
 live_parts_are_finished chain part fill steps j k is sound made later behind =
     let live = IsLive-at chain is sound fill steps j made in
     ap (λ (l : Live). with_program (alone chain part) l.machine) (sym (live_between chain (first_live chain fill) steps j k later))
-    ∙ run_same chain part (live_of chain fill steps j) (between j k steps) live.program live.patching.long behind
+    ∙ run_same chain (alone_in chain part) (length-alone chain part) (live_of chain fill steps j) (between j k steps)
+    live.program live.patching.long behind

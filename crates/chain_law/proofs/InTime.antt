@@ -7,7 +7,7 @@ use Rattle.fifo_model.specs.Queues.{queue_state}
 use Rattle.pixel_layout.specs.declared.Parity.{Parity}
 use Rattle.machine_model.specs.Paths.{RiscProgram}
 use Rattle.machine_model.specs.States.{State}
-use Rattle.machine_model.specs.Steps.{Step, Turn, step, with_program}
+use Rattle.machine_model.specs.Steps.{Turn, step, with_program}
 use Rattle.capture_desc.specs.declared.desc.Desc.{Desc}
 use Rattle.field_law.specs.Sections.{Section}
 use Rattle.field_law.specs.Arrivals.{Met, coming, entries_of, has_signal, is_signal, over_queues, turns_in}
@@ -23,11 +23,11 @@ use Rattle.chain_law.proofs.Captured.{live_captures, live_program, met_both, met
 use Rattle.chain_law.proofs.Meets.{live_next, own}
 
 -- whether a step of a live run signals
-abbrev signals_now : Section → Live → LiveStep → Bool
+abbrev pub signals_now : Section → Live → LiveStep → Bool
 signals_now s live (Plain st) = is_signal s live.machine st
 signals_now s live (Patch slot part) = false
 
-signalling_turn : (s : Section) (live : Live) (st : LiveStep) → signals_now s live st ≡ true → st ≡ Plain Turn
+pub signalling_turn : (s : Section) (live : Live) (st : LiveStep) → signals_now s live st ≡ true → st ≡ Plain Turn
 signalling_turn s live (Plain st) signals = ap Plain (signal_turn s live.machine st signals)
 signalling_turn s live (Patch slot part) signals = cc
 
@@ -42,7 +42,7 @@ module _ (s : Section) (chain : Chain) (start : Live) (steps : List LiveStep)
   abbrev live : ℕ → Live
   live i = live_at chain start steps i
 
-  abbrev signals_from : ℕ → ℕ → Bool
+  abbrev pub signals_from : ℕ → ℕ → Bool
   signals_from j l = has_signal s (live j).machine (mets chain (live j).patching (between j l steps))
 
   after_one : (now : Live) (st : LiveStep) (rest : List LiveStep) → now.machine.program ≡ patched chain now.patching →
@@ -56,7 +56,7 @@ module _ (s : Section) (chain : Chain) (start : Live) (steps : List LiveStep)
       let later = live_step chain (Patch slot part) now in
       sym (other_program s (patched chain later.patching) now.machine (mets chain later.patching rest))
 
-  signals_first : (j l : ℕ) → j < l → l ≤ length steps →
+  pub signals_first : (j l : ℕ) → j < l → l ≤ length steps →
       signals_from j l ≡ (signals_now s (live j) (step_at steps j) || signals_from (j + 1) l)
   signals_first j l before within =
       ap (λ (part : List LiveStep). has_signal s (live j).machine (mets chain (live j).patching part))
@@ -66,7 +66,7 @@ module _ (s : Section) (chain : Chain) (start : Live) (steps : List LiveStep)
       signals_now s (live j) (step_at steps j) || has_signal s later.machine (mets chain later.patching (between (j + 1) l steps)))
       (sym (live_next chain start steps j (omega arith)))
 
-  none_from : (j : ℕ) → signals_from j j ≡ false
+  pub none_from : (j : ℕ) → signals_from j j ≡ false
   none_from j =
       let none : j - j ≡ 0 = omega arith in
       ap (λ (n : ℕ). has_signal s (live j).machine (mets chain (live j).patching (take n (drop j steps)))) none

@@ -63,7 +63,7 @@ second_of : (a b : Bool) → IsTrue (b || false) → IsTrue (a || (b || false))
 second_of true b h = refl
 second_of false b h = h
 
-grants_first : GrantsAll two_slots smallest
+pub grants_first : GrantsAll two_slots smallest
 grants_first address h =
     first_of (covers (record { at = 0x20000; len = 4096 }) address) (covers (record { at = 0x30000; len = 4096 }) address) h
 
@@ -83,7 +83,7 @@ fragment_2 = record { description = pictures.described; frame = refl; words = re
 fragment_3 : IsFragment two_slots 3 other
 fragment_3 = record { description = other_described; frame = refl; words = refl }
 
-are_fragments : AreFragments two_slots
+pub are_fragments : AreFragments two_slots
 are_fragments zero lt = (smallest, fragment_0, grants_first)
 are_fragments (suc zero) lt = (other, fragment_1, grants_other)
 are_fragments (suc (suc zero)) lt = (smallest, fragment_2, grants_first)

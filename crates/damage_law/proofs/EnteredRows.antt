@@ -8,7 +8,7 @@ use Rattle.fifo_model.specs.declared.Queue.TheVariants.{One, Two, Three}
 use Rattle.machine_model.specs.States.{State}
 use Rattle.machine_model.specs.Steps.{Step}
 use Rattle.damage_law.specs.Lines.{AreInOrder, entries_taken, make_line}
-use Rattle.damage_law.specs.Marks.{is_among, is_whole, row_addresses, takings_at}
+use Rattle.damage_law.specs.Marks.{is_among, is_whole, row_addresses_at, takings_at}
 use Rattle.damage_law.specs.Orders.{entry_at, stream}
 use Rattle.damage_law.specs.Standing.{HaveEntered, WholeRowsEntered}
 use Rattle.damage_law.specs.Takings.{Taking, retires}
@@ -46,7 +46,7 @@ line_entered q m steps [] order makes = (0, 0, refl)
 line_entered q m steps (t ∷ rest) order makes = line-entered (entry_at (stream q m steps)) (t ∷ rest) order makes
 
 pub whole_rows_entered : WholeRowsEntered
-whole_rows_entered d field m steps orderly are_steps q number whole =
-    let addresses = slice_index_or (row_addresses d field) number [] in
+whole_rows_entered begin d field m steps orderly are_steps q number whole =
+    let addresses = slice_index_or (row_addresses_at begin d field) number [] in
     line_entered q m steps (takings_at addresses q m steps) (some_in_order q m steps addresses orderly are_steps)
-    (queue_makes q m steps addresses (marked (is_whole m steps) (row_addresses d field) number whole))
+    (queue_makes q m steps addresses (marked (is_whole m steps) (row_addresses_at begin d field) number whole))

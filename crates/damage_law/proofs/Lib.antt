@@ -7,6 +7,7 @@ pub mod LastSignals
 pub mod StoredTakes
 pub mod LineBytes
 pub mod PlacedTakes
+pub mod Held
 pub mod Pieces
 pub mod EnteredRows
 mod Worked

@@ -19,9 +19,8 @@ use Rattle.picture_model.specs.Described.{plane_row_bytes, stride}
 use Rattle.picture_model.specs.Places.{byte_clipped, place}
 use Rattle.picture_model.specs.Plans.{Cut, Follow, Strip, Track, cuts_of, ends_of, grain_bytes, grains_of, kind_of, piece_of, skipped_strip}
 use Rattle.picture_model.specs.Plans.{skipped_vbi_strip, vbi_strip}
-use Rattle.picture_model.specs.Programs.{compiled, instr_by, instr_of}
+use Rattle.picture_model.specs.Programs.{instr_by, instr_of}
 use Rattle.picture_model.proofs.Grains.{row_grains}
-use Rattle.picture_model.proofs.FaultlessGeometry.{IsRight}
 use Rattle.picture_model.proofs.Safe.{cuts_follow}
 use Rattle.picture_model.proofs.Sections.{row_below}
 use Rattle.picture_model.proofs.Strips.{IsStrip, row-IsStrip, skipped-IsStrip, skipped_vbi-IsStrip, vbi-IsStrip}
@@ -33,6 +32,7 @@ use Rattle.picture_law.proofs.Body.{field_row_strip, row_starts, skipped_starts}
 use Rattle.picture_law.proofs.Cuts.{Starts, cut_address, cut_asks, line_part_of, line_parts_of, moves, piece_asks, track_on}
 use Rattle.picture_law.proofs.BytePlaces.{queue_plane, queue_row_goes, row_track_on, skipped_goes, skipped_vbi_goes, vbi_goes}
 use Rattle.picture_law.proofs.KeptBytes.{kept_granted, kept_once, unless_clipped}
+use Rattle.damage_law.proofs.Held.{IsHeld}
 use Rattle.damage_law.proofs.PlacedTakes.{address_on, count_on}
 
 -- ---- what an instruction of a line asks
@@ -165,7 +165,7 @@ moved_from : (start : Option ℕ) (s y : ℕ) → start ≡ Some s → option_ma
 moved_from None s y is = cc
 moved_from (Some a) s y is = let same : a ≡ s = cc in ap (λ (b : ℕ). Some (b + y)) same
 
-module _ (d : Desc) (right : IsRight d) (field : Parity) (described : describes d.fields field ≡ true) where
+module _ (d : Desc) (held : IsHeld d) (field : Parity) (described : describes d.fields field ≡ true) where
   abbrev pub strip_of : Kind → Strip
   strip_of (OfVbi line) = vbi_strip d field line
   strip_of OfSkippedVbi = skipped_vbi_strip d
@@ -191,10 +191,10 @@ module _ (d : Desc) (right : IsRight d) (field : Parity) (described : describes 
   instr_on kind k = instr_of (strip_of kind).planar (piece_of (memory_of d) (strip_of kind) k)
 
   pub fit_of : (kind : Kind) → IsLineOf kind → IsStrip (memory_of d) (strip_of kind)
-  fit_of (OfVbi line) below = vbi-IsStrip d field line right described below
+  fit_of (OfVbi line) below = vbi-IsStrip d field line held.right described below
   fit_of OfSkippedVbi below = skipped_vbi-IsStrip d
   fit_of OfSkipped below = skipped-IsStrip d
-  fit_of (OfRow row) below = row-IsStrip d (picture_row (both d) field row) right (row_below d field row below)
+  fit_of (OfRow row) below = row-IsStrip d (picture_row (both d) field row) held.right (row_below d field row below)
 
   starts_of : (kind : Kind) →
       Starts (strip_of kind).planar (strip_of kind).kind (strip_of kind).one.start (strip_of kind).two.start (strip_of kind).three.start
@@ -261,7 +261,7 @@ module _ (d : Desc) (right : IsRight d) (field : Parity) (described : describes 
       address_in (line_parts_of (memory_of d) (track_on q (strip_of kind)) (cuts_on kind)) x ≡ Some address →
       IsKeptAt d field (byte_of kind q x) address
   kept_on (OfVbi line) One x address below moved inside goes =
-      let all : x < d.vbi_bytes = omega arith in ((below, all), sym (vbi_goes d right field line described below x all) ∙ goes)
+      let all : x < d.vbi_bytes = omega arith in ((below, all), sym (vbi_goes d held.right field line described below x all) ∙ goes)
   kept_on (OfVbi line) Two x address below moved inside goes = cc
   kept_on (OfVbi line) Three x address below moved inside goes = cc
   kept_on OfSkippedVbi One x address below moved inside goes =
@@ -279,7 +279,7 @@ module _ (d : Desc) (right : IsRight d) (field : Parity) (described : describes 
       let all : x < plane_row_bytes d (plane_of q) = omega arith in
       let known =
       unless_clipped (byte_clipped d (plane_of q) number x) (place d (plane_of q) number x) address
-      (sym (queue_row_goes d right q number x has (row_below d field row below) all) ∙ goes) in
+      (sym (queue_row_goes d held.right q number x has (row_below d field row below) all) ∙ goes) in
       ((has, below, all, known.0), known.1)
 
   -- ---- where an instruction is
@@ -299,7 +299,7 @@ module _ (d : Desc) (right : IsRight d) (field : Parity) (described : describes 
       pub after : List Cut
       pub split : cuts_on kind ≡ before ++ k ∷ after
       pub is : i ≡ instr_on kind k
-      pub read : fetch (compiled d) a ≡ Ok (i, length (encoded i))
+      pub read : fetch held.program a ≡ Ok (i, length (encoded i))
       pub there : IsPlace kind a before
 
     -- the byte to whose place it writes
@@ -403,7 +403,7 @@ module _ (d : Desc) (right : IsRight d) (field : Parity) (described : describes 
         let some = never_skipped one.kind p (one.k.at * size + x) (s + x) w.moved w.goes in
         let other = never_skipped two.kind q (two.k.at * size' + y) (t + y) v.moved v.goes in
         let once =
-        kept_once d right field described (byte_of one.kind p (one.k.at * size + x)) (byte_of two.kind q (two.k.at * size' + y))
+        kept_once d held.right field described (byte_of one.kind p (one.k.at * size + x)) (byte_of two.kind q (two.k.at * size' + y))
         (s + x) w.kept
         (subst (λ (n : ℕ). IsKeptAt d field (byte_of two.kind q (two.k.at * size' + y)) n) (sym same) v.kept) in
         let line = same_line one.kind two.kind p q (one.k.at * size + x) (two.k.at * size' + y) some other w.moved v.moved once in
@@ -417,7 +417,9 @@ module _ (d : Desc) (right : IsRight d) (field : Parity) (described : describes 
 
     -- each writes to granted memory
     pub pieces_granted : (a : ℕ) (i : Instr) (p : Queue) (s x : ℕ) → PieceAt a i → address_on p i ≡ Some s → x < count_on p i →
-        granted (compiled d).grants (s + x) ≡ true
+        granted held.program.grants (s + x) ≡ true
     pieces_granted a i p s x one goes inside =
         let w = written a i p s x one goes inside in
-        kept_granted d right field described (byte_of one.kind p (one.k.at * (track_on p (strip_of one.kind)).size + x)) (s + x) w.kept
+        held.covers (s + x)
+        (kept_granted d held.right field described (byte_of one.kind p (one.k.at * (track_on p (strip_of one.kind)).size + x)) (s + x)
+        w.kept)

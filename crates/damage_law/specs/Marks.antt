@@ -41,11 +41,14 @@ before_rows d field =
     opening field ∷ vbi_instrs d field
     ++ sync false (data_code (layout_of d).planar) ∷ lines_instrs d (replicate d.skip_lines (skipped_strip d))
 
--- the addresses of the instructions of each row
+-- the addresses of the instructions of each row, where the field's section begins at an address
+abbrev pub row_addresses_at : ℕ → Desc → Parity → List (List ℕ)
+row_addresses_at begin d field =
+    lines_from (begin + 4 * words_in (before_rows d field)) (map (λ row. line_instrs d (row_strip d row)) (rows_of d field))
+
+-- in the program of the description
 abbrev pub row_addresses : Desc → Parity → List (List ℕ)
-row_addresses d field =
-    lines_from (section_begin d d.base field + 4 * words_in (before_rows d field))
-    (map (λ row. line_instrs d (row_strip d row)) (rows_of d field))
+row_addresses d field = row_addresses_at (section_begin d d.base field) d field
 
 -- a row is whole over steps: each of its instructions retires, and what they take of each queue makes a line
 abbrev pub is_among : List ℕ → ℕ → Bool
@@ -61,20 +64,27 @@ is_whole m steps addresses =
     && make_line (takings_at addresses Two m steps)
     && make_line (takings_at addresses Three m steps)
 
--- for each row of a field whether it is whole over steps
+-- for each row of a field, whose section begins at an address, whether it is whole over steps
+abbrev pub marks_at : ℕ → Desc → Parity → State → List Step → List Bool
+marks_at begin d field m steps = map (is_whole m steps) (row_addresses_at begin d field)
+
+-- in the program of the description
 abbrev pub marks : Desc → Parity → State → List Step → List Bool
-marks d field m steps = map (is_whole m steps) (row_addresses d field)
+marks d field m steps = marks_at (section_begin d d.base field) d field m steps
 
 -- the last signal, and the opening before it
 
--- a turn that begins to wait in the opening of a field
+-- a turn that begins to wait in the opening of a section that begins at an address, and in that of a field
 abbrev pub is_synced : Did → Bool
 is_synced Synced = true
 is_synced _ = false
 
+abbrev pub is_opening_at : ℕ → State → Step → Bool
+is_opening_at begin m Turn = is_synced (seen m).did && (seen m).at == begin
+is_opening_at begin m _ = false
+
 abbrev pub is_opening : Desc → Parity → State → Step → Bool
-is_opening d field m Turn = is_synced (seen m).did && (seen m).at == section_begin d d.base field
-is_opening d field m _ = false
+is_opening d field m s = is_opening_at (section_begin d d.base field) m s
 
 -- the number of the last step of which a test holds, in the state that it meets
 abbrev pub later_or : Bool → Option ℕ → Option ℕ

@@ -10,18 +10,24 @@ use Rattle.machine_model.specs.Steps.{Step}
 use Rattle.capture_desc.specs.declared.desc.Desc.{Desc}
 use Rattle.picture_model.specs.Described.{IsDescription, describes}
 use Rattle.picture_model.specs.Geometry.{IsValid}
-use Rattle.picture_model.specs.Programs.{compiled}
+use Rattle.picture_model.specs.Programs.{compiled, section_begin}
 use Rattle.field_law.specs.Fields.{carried, is_line}
 use Rattle.picture_law.specs.Pictures.{of_row, IsKeptAt}
 use Rattle.picture_law.specs.Runs.{between, signals_at, state_of}
 use Rattle.picture_law.specs.Sections.{section_of}
 use Rattle.damage_law.specs.Lines.{entries_from, entries_taken}
-use Rattle.damage_law.specs.Marks.{is_opening, last_step, marks, row_addresses, takings_at}
+use Rattle.damage_law.specs.Marks.{is_opening, last_step, marks, marks_at, row_addresses_at, takings_at}
 use Rattle.damage_law.specs.Orders.{entry_at, stream}
 
--- the entries of which the instructions of a row take a byte, over steps from a state
+-- the entries of which the instructions of a row take a byte, over steps from a state, where the field's section begins at an
+-- address
+abbrev pub row_entries_at : ℕ → Desc → Parity → ℕ → Queue → State → List Step → List Entry
+row_entries_at begin d field number q m steps =
+    entries_taken (takings_at (slice_index_or (row_addresses_at begin d field) number []) q m steps)
+
+-- in the program of the description
 abbrev pub row_entries : Desc → Parity → ℕ → Queue → State → List Step → List Entry
-row_entries d field number q m steps = entries_taken (takings_at (slice_index_or (row_addresses d field) number []) q m steps)
+row_entries d field number q m steps = row_entries_at (section_begin d d.base field) d field number q m steps
 
 -- in a run of a valid description's program from the first state step k is a signal of a field, which was last opened at
 -- step j before it
@@ -53,7 +59,9 @@ WholeRowsStand =
 abbrev pub HaveEntered : List Entry → Queue → State → List Step → Type 0
 HaveEntered entries q m steps = (from : ℕ) × (count : ℕ) × (entries ≡ entries_from (entry_at (stream q m steps)) from count)
 
--- the entries of which the instructions of a whole row take a byte did
+-- the entries of which the instructions of a whole row take a byte did, wherever the field's section begins
 abbrev pub WholeRowsEntered : Type 0
-WholeRowsEntered = (d : Desc) (field : Parity) (m : State) (steps : List Step) → IsOrderly m → All IsStep steps → (q : Queue) (number : ℕ) →
-    slice_index_or (marks d field m steps) number false ≡ true → HaveEntered (row_entries d field number q m steps) q m steps
+WholeRowsEntered =
+    (begin : ℕ) (d : Desc) (field : Parity) (m : State) (steps : List Step) → IsOrderly m → All IsStep steps → (q : Queue) (number : ℕ) →
+    slice_index_or (marks_at begin d field m steps) number false ≡ true →
+    HaveEntered (row_entries_at begin d field number q m steps) q m steps

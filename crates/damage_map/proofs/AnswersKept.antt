@@ -55,6 +55,7 @@ use Rattle.picture_law.specs.Sections.{section_of}
 use Rattle.picture_law.proofs.Program.{fetched_at, next_field, section_holds}
 use Rattle.damage_law.specs.Takings.{Taking, left, retired_at, retires, step_retires, step_takings, takings, takings_if, worked_takings}
 use Rattle.damage_law.specs.Marks.{is_opening, is_synced, last_step, later_or, marks_to}
+use Rattle.damage_law.proofs.Held.{compiled_held}
 use Rattle.machine_watch.specs.Watches.{written}
 use Rattle.damage_map.specs.Before.{before_of, before_rows, lines_before}
 use Rattle.damage_map.specs.Laws.{KeepsAnswers, TellsSignals, map_after}
@@ -101,13 +102,13 @@ abbrev pub gone_of : State → List Step → Queue → ℕ
 gone_of m done q = gone_after q 0 m done
 
 -- over one more step from a state
-abbrev past_next : Past → (Queue → ℕ) → State → Step → Past
+abbrev pub past_next : Past → (Queue → ℕ) → State → Step → Past
 past_next past gone m s = record { takes = λ q. past.takes q ++ step_takings q (gone q) m s; retired = past.retired ++ step_retires m s }
 
-abbrev gone_next : (Queue → ℕ) → State → Step → Queue → ℕ
+abbrev pub gone_next : (Queue → ℕ) → State → Step → Queue → ℕ
 gone_next gone m s q = gone q + left q m (step s m)
 
-past_more : (m0 : State) (done : List Step) (s : Step) →
+pub past_more : (m0 : State) (done : List Step) (s : Step) →
     past_of m0 (done ++ s ∷ []) ≡ past_next (past_of m0 done) (gone_of m0 done) (run m0 done) s
 past_more m0 done s =
     let takes : (λ (q : Queue). takings q 0 m0 (done ++ s ∷ []))
@@ -115,10 +116,10 @@ past_more m0 done s =
     λ i q. takings_more q done 0 m0 s i in
     ap₂ (λ (takes : Queue → List Taking) (retired : List ℕ). record { takes = takes; retired = retired }) takes (retires_more done m0 s)
 
-gone_of_more : (m0 : State) (done : List Step) (s : Step) → gone_of m0 (done ++ s ∷ []) ≡ gone_next (gone_of m0 done) (run m0 done) s
+pub gone_of_more : (m0 : State) (done : List Step) (s : Step) → gone_of m0 (done ++ s ∷ []) ≡ gone_next (gone_of m0 done) (run m0 done) s
 gone_of_more m0 done s = λ i q. gone_more q done 0 m0 s i
 
-nothing_past : (past : Past) → record { takes = λ (q : Queue). past.takes q ++ []; retired = past.retired ++ [] } ≡ past
+pub nothing_past : (past : Past) → record { takes = λ (q : Queue). past.takes q ++ []; retired = past.retired ++ [] } ≡ past
 nothing_past past =
     let takes : (λ (q : Queue). past.takes q ++ []) ≡ past.takes = λ i q. append-nil (past.takes q) i in
     ap₂ (λ (takes : Queue → List Taking) (retired : List ℕ). record { takes = takes; retired = retired }) takes (append-nil past.retired)
@@ -247,7 +248,7 @@ plain_opening r code n p is = by_plain p.plain
 
 -- ---- what a turn is seen to do within a section
 
-abbrev IsCalm : Did → Type 0
+abbrev pub IsCalm : Did → Type 0
 IsCalm did = (is_jumped did ≡ false) × (is_synced did ≡ false)
 
 data_calm : (skipping : Skipping) → IsCalm (data_did skipping)
@@ -273,7 +274,7 @@ code_calm (Some seen_code) code = by_same (code_number seen_code == code_number 
     by_same true = (refl, refl)
     by_same false = (refl, refl)
 
-waited_calm : (stray : Option Queue) (seen_code : Option Code) (code : Code) → IsCalm (waited_did stray seen_code code)
+pub waited_calm : (stray : Option Queue) (seen_code : Option Code) (code : Code) → IsCalm (waited_did stray seen_code code)
 waited_calm (Some q) seen_code code = (refl, refl)
 waited_calm None seen_code code = code_calm seen_code code
 
@@ -285,7 +286,7 @@ served_calm (Some q) at m = by_gave (list_any gives_up (applications m.trigger q
     by_gave true = (refl, refl)
     by_gave false = (refl, refl)
 
-running_calm : (done : Bool) (at : ℕ) (ds : Demands) (m : State) → IsCalm (seen_running done at ds m).did
+pub running_calm : (done : Bool) (at : ℕ) (ds : Demands) (m : State) → IsCalm (seen_running done at ds m).did
 running_calm true at ds m = (refl, refl)
 running_calm false at ds m = served_calm (lowest_served ds m) at m
 
@@ -325,7 +326,7 @@ seen_within m plainly = risc_within m.risc_on m refl plainly
 
 -- ---- no signal, no opening
 
-signal_by : (on : Bool) (job : Job) (pc c : ℕ) → (on ≡ true → job ≡ Idle → pc ≡ c → ⊥) → (on && is_idle job && pc == c) ≡ false
+pub signal_by : (on : Bool) (job : Job) (pc c : ℕ) → (on ≡ true → job ≡ Idle → pc ≡ c → ⊥) → (on && is_idle job && pc == c) ≡ false
 signal_by false job pc c apart = refl
 signal_by true Idle pc c apart = ne_eqb pc c (apart refl refl)
 signal_by true (Waiting ctl resync code) pc c apart = refl
@@ -337,7 +338,7 @@ opening_by true at c apart = ne_eqb at c (apart refl)
 
 -- ---- the program of a description
 
-first_field : (which : Fields) (d : Desc) (from : ℕ) → (f : Parity) × (describes which f ≡ true) × (begin_by which d from f ≡ from)
+pub first_field : (which : Fields) (d : Desc) (from : ℕ) → (f : Parity) × (describes which f ≡ true) × (begin_by which d from f ≡ from)
 first_field fields.Top d from = (Top, refl, refl)
 first_field fields.Bottom d from = (Bottom, refl, refl)
 first_field fields.Both d from = (Top, refl, refl)
@@ -382,7 +383,7 @@ module _ (d : Desc) (right : IsRight d) where
 
 -- ---- a run
 
-field_same : (f g : Parity) → (f ≡ g) ⊎ (f ≡ g → ⊥)
+pub field_same : (f g : Parity) → (f ≡ g) ⊎ (f ≡ g → ⊥)
 field_same Top Top = inl refl
 field_same Top Bottom = inr (λ same. cc)
 field_same Bottom Top = inr (λ same. cc)
@@ -415,7 +416,7 @@ untold_none d Bottom n = refl
 
 module _ (d : Desc) (right : IsRight d) (skips : SkipsFew d) where
   pub few : (f : Parity) → length (section_lines d f) ≤ max_lines
-  few f = few_lines d f right skips
+  few f = few_lines d (begin_of d right f) f right skips
 
   -- about to open a section
   pub record Outside (m : State) : Type 0 where
@@ -434,7 +435,7 @@ module _ (d : Desc) (right : IsRight d) (skips : SkipsFew d) where
     pub there : m ≡ run first done
     pub visit : Visit (compiled d) (signal field) (next_of d right field) (end_of d right field)
         (section_lines d field) m t (past_of first done) (gone_of first done)
-    pub bytes : KeepsBytes d right field described m (past_of first done)
+    pub bytes : KeepsBytes d (compiled_held d right) field described m (past_of first done)
 
   abbrev pub Place : State → FieldTrack → (Parity → Opened) → Type 0
   Place m t opens_since = Outside m ⊎ Inside m t opens_since
@@ -466,7 +467,7 @@ module _ (d : Desc) (right : IsRight d) (skips : SkipsFew d) where
     goes_inside : (i : Inside m t opens_since) (after : State) (next : FieldTrack) → step s m ≡ after → is_opening d i.field m s ≡ false →
         Visit (compiled d) (signal i.field) (next_of d right i.field) (end_of d right i.field) (section_lines d i.field) after next
         (past_next (past_of i.first i.done) (gone_of i.first i.done) m s) (λ q. gone_of i.first i.done q + left q m after) →
-        KeepsBytes d right i.field i.described after (past_next (past_of i.first i.done) (gone_of i.first i.done) m s) →
+        KeepsBytes d (compiled_held d right) i.field i.described after (past_next (past_of i.first i.done) (gone_of i.first i.done) m s) →
         Inside after next opens_next
     goes_inside i after next steps closed visit bytes =
         let there : step s m ≡ after = steps in
@@ -490,19 +491,19 @@ module _ (d : Desc) (right : IsRight d) (skips : SkipsFew d) where
               (subst (λ (gone : Queue → ℕ).
               Visit (compiled d) (signal i.field) (next_of d right i.field) (end_of d right i.field) (section_lines d i.field) after next
               (past_next (past_of i.first i.done) (gone_of i.first i.done) m s) gone) (sym gone_there) visit);
-          bytes = subst (KeepsBytes d right i.field i.described after) (sym past_there) bytes;
+          bytes = subst (KeepsBytes d (compiled_held d right) i.field i.described after) (sym past_there) bytes;
         }
 
     -- where memory stays, and the machine is where it was
     bytes_still : (i : Inside m t opens_since) (after : State) → after.memory ≡ m.memory → after.job ≡ m.job → after.pc ≡ m.pc →
         past_next (past_of i.first i.done) (gone_of i.first i.done) m s ≡ past_of i.first i.done →
-        KeepsBytes d right i.field i.described after (past_next (past_of i.first i.done) (gone_of i.first i.done) m s)
+        KeepsBytes d (compiled_held d right) i.field i.described after (past_next (past_of i.first i.done) (gone_of i.first i.done) m s)
     bytes_still i after memory job pc same =
         let past = past_of i.first i.done in
-        subst (KeepsBytes d right i.field i.described after) (sym same)
-        (bytes_with d right i.field i.described m after past memory
-        (subst (λ (j : Job). JobHas d right i.field i.described after.pc j past) (sym job)
-        (subst (λ (at : ℕ). JobHas d right i.field i.described at m.job past) (sym pc) i.bytes.job)) i.bytes)
+        subst (KeepsBytes d (compiled_held d right) i.field i.described after) (sym same)
+        (bytes_with d (compiled_held d right) i.field i.described m after past memory
+        (subst (λ (j : Job). JobHas d (compiled_held d right) i.field i.described after.pc j past) (sym job)
+        (subst (λ (at : ℕ). JobHas d (compiled_held d right) i.field i.described at m.job past) (sym pc) i.bytes.job)) i.bytes)
 
     outside_still : (o : Outside m) (after : State) → after.job ≡ m.job → after.pc ≡ m.pc → Outside after
     outside_still o after j p = record { field = o.field; described = o.described; idle = j ∙ o.idle; there = p ∙ o.there }
@@ -670,7 +671,8 @@ module _ (d : Desc) (right : IsRight d) (skips : SkipsFew d) where
             place =
                 inr (goes_inside m t opens_since tolds h Turn i (turn m) (track_next m Turn t) refl (closed f i.described)
                 (subst (λ (p : RiscProgram). VisitTo (turned p (seen m).did (seen m) t)) (sym h.program) visit)
-                (turn_bytes d right f i.described m (past_of i.first i.done) i.bytes (gone_of i.first i.done) (signal f) (next_of d right f)
+                (turn_bytes d (compiled_held d right) f i.described m (past_of i.first i.done) i.bytes (gone_of i.first i.done)
+                (signal f) (next_of d right f)
                 (end_of d right f) t h.program plainly i.visit));
           }
 
@@ -855,9 +857,10 @@ module _ (d : Desc) (right : IsRight d) (skips : SkipsFew d) where
                     there = refl;
                     visit = visit_by (turn m) (track_next m Turn t) turn_is track_is;
                     bytes =
-                        fresh_bytes d right opened_field o.described (turn m) (past_of m (Turn ∷ []))
+                        fresh_bytes d (compiled_held d right) opened_field o.described (turn m) (past_of m (Turn ∷ []))
                         (chunks-step Turn m ∙ h.chunks) nothing_taken none_retired
-                        (subst (λ (x : State). JobHas d right opened_field o.described x.pc x.job (past_of m (Turn ∷ []))) (sym turn_is)
+                        (subst (λ (x : State). JobHas d (compiled_held d right) opened_field o.described x.pc x.job (past_of m (Turn ∷ [])))
+                        (sym turn_is)
                         (λ q. subst (λ (ts : List Taking). TakenBelow (m.pc + 8) ts) (sym (nothing_taken q)) tt));
                   });
             }

@@ -40,7 +40,7 @@ use Rattle.field_law.specs.Sections.{words_in}
 use Rattle.picture_law.specs.Pictures.{has_plane, plane_of}
 use Rattle.picture_law.proofs.Cuts.{moves, on_queue, track_on}
 use Rattle.picture_law.proofs.BytePlaces.{grain_some, queue_plane, row_track_on}
-use Rattle.damage_law.specs.Marks.{addresses_from, before_rows, lines_from, row_addresses}
+use Rattle.damage_law.specs.Marks.{addresses_from, before_rows, lines_from, row_addresses, row_addresses_at}
 use Rattle.damage_law.proofs.Pieces.{cuts_further, plane_moves}
 use Rattle.damage_map.specs.Before.{lines_before, vbi_count}
 use Rattle.damage_map.specs.Tracks.{max_lines}
@@ -394,25 +394,27 @@ module _ (d : Desc) where
       ∙ length-append (lines_at here vbi) (lines_at (later + 8) (line_parts skipped))
       ∙ ap₂ (λ (x y : ℕ). x + y) first second
 
-  abbrev pub section_lines : Parity → List (List ℕ)
-  section_lines field = lines_at (section_begin d d.base field + 8) (section_parts field)
+  -- those of a section that begins at an address
+  abbrev pub section_lines_at : ℕ → Parity → List (List ℕ)
+  section_lines_at begin field = lines_at (begin + 8) (section_parts field)
 
-  pub lines_split : (field : Parity) →
-      section_lines field ≡ lines_at (section_begin d d.base field + 8) (parts_before field) ++ row_addresses d field
-  lines_split field =
-      let begin = section_begin d d.base field + 8 in
+  abbrev pub section_lines : Parity → List (List ℕ)
+  section_lines field = section_lines_at (section_begin d d.base field) field
+
+  pub lines_split : (begin : ℕ) (field : Parity) →
+      section_lines_at begin field ≡ lines_at (begin + 8) (parts_before field) ++ row_addresses_at begin d field
+  lines_split begin field =
       let words = ap words_in (before_instrs field) in
-      let there : begin + 4 * words_in (instrs_of (parts_before field))
-      ≡ section_begin d d.base field + 4 * words_in (before_rows d field) = omega arith in
-      lines_append (parts_before field) (row_parts field) begin
-      ∙ ap (λ (ls : List (List ℕ)). lines_at begin (parts_before field) ++ ls)
-      (row_lines (rows_of d field) (begin + 4 * words_in (instrs_of (parts_before field)))
+      let there : begin + 8 + 4 * words_in (instrs_of (parts_before field)) ≡ begin + 4 * words_in (before_rows d field) = omega arith in
+      lines_append (parts_before field) (row_parts field) (begin + 8)
+      ∙ ap (λ (ls : List (List ℕ)). lines_at (begin + 8) (parts_before field) ++ ls)
+      (row_lines (rows_of d field) (begin + 8 + 4 * words_in (instrs_of (parts_before field)))
       ∙ ap (λ (n : ℕ). lines_from n (map (λ row. line_instrs d (row_strip d row)) (rows_of d field))) there)
 
   pub rows_dropped : (field : Parity) → drop (lines_before d field) (section_lines field) ≡ row_addresses d field
   rows_dropped field =
       let before = lines_at (section_begin d d.base field + 8) (parts_before field) in
-      ap (drop (lines_before d field)) (lines_split field)
+      ap (drop (lines_before d field)) (lines_split (section_begin d d.base field) field)
       ∙ ap (λ (n : ℕ). drop n (before ++ row_addresses d field)) (sym (many_before field (section_begin d d.base field + 8)))
       ∙ drop-append_seam before (row_addresses d field)
 
@@ -429,19 +431,19 @@ module _ (d : Desc) where
   vbi_count_few zero skipped few less = omega arith
   vbi_count_few (suc more) skipped few less = omega arith
 
-  pub few_lines : (field : Parity) → IsRight d → SkipsFew d → length (section_lines field) ≤ max_lines
-  few_lines field right skips =
+  pub few_lines : (begin : ℕ) (field : Parity) → IsRight d → SkipsFew d → length (section_lines_at begin field) ≤ max_lines
+  few_lines begin field right skips =
       let vbi = vbi_count_few d.vbi_lines (vbi_skip d field) right.vbi_lines (skips.1 field) in
       let skipped = skips.0 in
       let high = right.height.1 in
       let height = height_by (describes d.fields field) (both d) d.height in
-      let before = many_before field (section_begin d d.base field + 8) in
-      let rows : length (row_addresses d field) ≡ field_height d field =
-      lines_many (rows_of d field) (section_begin d d.base field + 4 * words_in (before_rows d field))
+      let before = many_before field (begin + 8) in
+      let rows : length (row_addresses_at begin d field) ≡ field_height d field =
+      lines_many (rows_of d field) (begin + 4 * words_in (before_rows d field))
       ∙ length-map-range_with_len (picture_row (both d) field) 0 (field_height d field) in
       let all =
-      ap length (lines_split field)
-      ∙ length-append (lines_at (section_begin d d.base field + 8) (parts_before field)) (row_addresses d field) in
+      ap length (lines_split begin field)
+      ∙ length-append (lines_at (begin + 8) (parts_before field)) (row_addresses_at begin d field) in
       omega arith
 
   -- each line is cut

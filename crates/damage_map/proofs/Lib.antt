@@ -4,8 +4,8 @@ mod Bursts
 mod Sections
 mod Visits
 mod SectionTurns
-mod SectionSteps
-mod Compiled
+pub mod SectionSteps
+pub mod Compiled
 pub mod AnswersKept
 pub mod ArrivedTurns
 pub mod ArrivedSteps
@@ -15,3 +15,4 @@ pub mod PlacedTurns
 pub mod PlacedSteps
 pub mod PlacedRows
 pub mod StandingRows
+pub mod SectionRuns

@@ -16,15 +16,15 @@ use Rattle.machine_model.proofs.BeforeTurns.{fetch-KnownAt}
 use Rattle.capture_desc.specs.declared.desc.Desc.{Desc}
 use Rattle.picture_model.specs.Described.{describes, memory_of}
 use Rattle.picture_model.specs.Plans.{Cut, piece_of}
-use Rattle.picture_model.specs.Programs.{compiled, instr_of}
+use Rattle.picture_model.specs.Programs.{instr_of}
 use Rattle.picture_model.proofs.Each.{Each, each_only}
-use Rattle.picture_model.proofs.FaultlessGeometry.{IsRight}
 use Rattle.field_law.specs.CutLines.{LinePart, address_in, bytes_of}
 use Rattle.field_law.specs.Sections.{HoldsFrom}
 use Rattle.field_law.proofs.CutLines.{address_behind, address_here}
 use Rattle.picture_law.proofs.Cuts.{cut_address, line_part_of, line_parts_of, moves, track_on}
 use Rattle.damage_law.specs.Marks.{addresses_from, is_among}
 use Rattle.damage_law.specs.Takings.{Taking}
+use Rattle.damage_law.proofs.Held.{IsHeld}
 use Rattle.damage_law.proofs.Pieces.{Kind, address_is, count_is, instr_on, strip_of, unmoved_none}
 use Rattle.damage_law.proofs.PlacedTakes.{address_on, index_first, index_later}
 use Rattle.damage_law.proofs.StoredTakes.{taken_bytes, taken_bytes-append}
@@ -95,20 +95,20 @@ split_takes a rest (t ∷ ts) sorted above = by_first (t.at == a) refl (split_ta
 
 -- ---- a line of which each instruction retired
 
-module _ (d : Desc) (right : IsRight d) (field : Parity) (described : describes d.fields field ≡ true) (m : State) (past : Past)
-    (k : KeepsBytes d right field described m past)
+module _ (d : Desc) (held : IsHeld d) (field : Parity) (described : describes d.fields field ≡ true) (m : State) (past : Past)
+    (k : KeepsBytes d held field described m past)
     (kind : Kind) (q : Queue) where
   abbrev instrs_of_cuts : List Cut → List Instr
   instrs_of_cuts cuts =
-      map (instr_of (strip_of d right field described kind).planar)
-      (map (piece_of (memory_of d) (strip_of d right field described kind)) cuts)
+      map (instr_of (strip_of d held field described kind).planar)
+      (map (piece_of (memory_of d) (strip_of d held field described kind)) cuts)
 
   -- each is in the section
   abbrev pub AllIn : ℕ → List Cut → Type 0
   AllIn a [] = Unit {0}
   AllIn a (c ∷ cuts) =
-      IsIn d right field described a (instr_on d right field described kind c)
-      × AllIn (a + 4 * length (encoded (instr_on d right field described kind c))) cuts
+      IsIn d held field described a (instr_on d held field described kind c)
+      × AllIn (a + 4 * length (encoded (instr_on d held field described kind c))) cuts
 
   addresses_above : (a at : ℕ) (instrs : List Instr) → a < at → Each (λ b. a < b) (addresses_from at instrs)
   addresses_above a at [] less = tt
@@ -125,10 +125,10 @@ module _ (d : Desc) (right : IsRight d) (field : Parity) (described : describes 
   Stand a cuts z address = (z < length (bytes_at a cuts)) × (byte_at m.memory address ≡ slice_index (bytes_at a cuts) z)
 
   abbrev size : ℕ
-  size = (track_on q (strip_of d right field described kind)).size
+  size = (track_on q (strip_of d held field described kind)).size
 
   abbrev behind : ℕ → Cut → ℕ
-  behind a c = a + 4 * length (encoded (instr_on d right field described kind c))
+  behind a c = a + 4 * length (encoded (instr_on d held field described kind c))
 
   abbrev pub AllRetired : ℕ → List Cut → Type 0
   AllRetired a cuts = list_all (is_among past.retired) (addresses_from a (instrs_of_cuts cuts)) ≡ true
@@ -138,22 +138,22 @@ module _ (d : Desc) (right : IsRight d) (field : Parity) (described : describes 
   retired_parts c cuts a retired =
       and_parts (is_among past.retired a) (list_all (is_among past.retired) (addresses_from (behind a c) (instrs_of_cuts cuts))) retired
 
-  split_here : (c : Cut) (cuts : List Cut) (a : ℕ) → IsIn d right field described a (instr_on d right field described kind c) →
-      bytes_at a (c ∷ cuts) ≡ had_of d right field described past a q ++ bytes_at (behind a c) cuts
+  split_here : (c : Cut) (cuts : List Cut) (a : ℕ) → IsIn d held field described a (instr_on d held field described kind c) →
+      bytes_at a (c ∷ cuts) ≡ had_of d held field described past a q ++ bytes_at (behind a c) cuts
   split_here c cuts a is_in =
-      let i = instr_on d right field described kind c in
-      let known = fetch-KnownAt (compiled d) a i (length (encoded i)) is_in.read in
+      let i = instr_on d held field described kind c in
+      let known = fetch-KnownAt held.program a i (length (encoded i)) is_in.read in
       let positive = known.positive in
       ap taken_bytes
       (split_takes a (addresses_from (behind a c) (instrs_of_cuts cuts)) (past.takes q) (k.sorted q)
       (addresses_above a (behind a c) (instrs_of_cuts cuts) (omega arith)))
       ∙ taken_bytes-append (takes_in (a ∷ []) (past.takes q)) (takes_in (addresses_from (behind a c) (instrs_of_cuts cuts)) (past.takes q))
 
-  split_long : (c : Cut) (cuts : List Cut) (a : ℕ) → IsIn d right field described a (instr_on d right field described kind c) →
-      length (bytes_at a (c ∷ cuts)) ≡ length (had_of d right field described past a q) + length (bytes_at (behind a c) cuts)
+  split_long : (c : Cut) (cuts : List Cut) (a : ℕ) → IsIn d held field described a (instr_on d held field described kind c) →
+      length (bytes_at a (c ∷ cuts)) ≡ length (had_of d held field described past a q) + length (bytes_at (behind a c) cuts)
   split_long c cuts a is_in =
       ap (λ (bytes : List ℕ). length bytes) (split_here c cuts a is_in)
-      ∙ length-append (had_of d right field described past a q) (bytes_at (behind a c) cuts)
+      ∙ length-append (had_of d held field described past a q) (bytes_at (behind a c) cuts)
 
   none_taken : (ts : List Taking) → length (taken_bytes (takes_in [] ts)) ≡ 0
   none_taken [] = refl
@@ -161,28 +161,28 @@ module _ (d : Desc) (right : IsRight d) (field : Parity) (described : describes 
 
   -- ---- on a queue that the line moves
 
-  module _ (moved : moves (strip_of d right field described kind).planar q ≡ true) where
-    module _ (c : Cut) (cuts : List Cut) (a : ℕ) (is_in : IsIn d right field described a (instr_on d right field described kind c))
+  module _ (moved : moves (strip_of d held field described kind).planar q ≡ true) where
+    module _ (c : Cut) (cuts : List Cut) (a : ℕ) (is_in : IsIn d held field described a (instr_on d held field described kind c))
         (retired : is_among past.retired a ≡ true) where
       abbrev i : Instr
-      i = instr_on d right field described kind c
+      i = instr_on d held field described kind c
 
       abbrev next : ℕ
       next = behind a c
 
       abbrev had : List ℕ
-      had = had_of d right field described past a q
+      had = had_of d held field described past a q
 
       full_here : length had ≡ c.n * size
-      full_here = k.full a i q is_in retired ∙ count_is d right field described kind c q moved
+      full_here = k.full a i q is_in retired ∙ count_is d held field described kind c q moved
 
       here_stands : (z address : ℕ) → z < c.n * size →
-          option_map (λ at. at + z) (cut_address (memory_of d) c.clipped (track_on q (strip_of d right field described kind)) c.at)
+          option_map (λ at. at + z) (cut_address (memory_of d) c.clipped (track_on q (strip_of d held field described kind)) c.at)
           ≡ Some address → Stand a (c ∷ cuts) z address
       here_stands z address low is =
           let back =
-          moved_back (cut_address (memory_of d) c.clipped (track_on q (strip_of d right field described kind)) c.at) z address is in
-          let goes : address_on q i ≡ Some back.0 = address_is d right field described kind c q moved ∙ back.1 in
+          moved_back (cut_address (memory_of d) c.clipped (track_on q (strip_of d held field described kind)) c.at) z address is in
+          let goes : address_on q i ≡ Some back.0 = address_is d held field described kind c q moved ∙ back.1 in
           let all = full_here in
           let long = length-append had (bytes_at next cuts) in
           subst (λ (bytes : List ℕ). (z < length bytes) × (byte_at m.memory address ≡ slice_index bytes z))
@@ -205,13 +205,13 @@ module _ (d : Desc) (right : IsRight d) (field : Parity) (described : describes 
           )
 
     abbrev parts_there : List Cut → List LinePart
-    parts_there cuts = line_parts_of (memory_of d) (track_on q (strip_of d right field described kind)) cuts
+    parts_there cuts = line_parts_of (memory_of d) (track_on q (strip_of d held field described kind)) cuts
 
     pub cuts_stand : (cuts : List Cut) (a z address : ℕ) → AllIn a cuts → AllRetired a cuts →
         address_in (parts_there cuts) z ≡ Some address → Stand a cuts z address
     cuts_stand [] a z address all retired goes = cc
     cuts_stand (c ∷ cuts) a z address all retired goes =
-        let t = track_on q (strip_of d right field described kind) in
+        let t = track_on q (strip_of d held field described kind) in
         let parts = retired_parts c cuts a retired in
         elim (cases_lt z (c.n * t.size)) [
           | inl low ↦ here_stands c cuts a all.0 parts.0 z address low
@@ -234,26 +234,26 @@ module _ (d : Desc) (right : IsRight d) (field : Parity) (described : describes 
 
   -- ---- on a queue that it doesn't move
 
-  pub cuts_empty : moves (strip_of d right field described kind).planar q ≡ false → (cuts : List Cut) (a : ℕ) → AllIn a cuts →
+  pub cuts_empty : moves (strip_of d held field described kind).planar q ≡ false → (cuts : List Cut) (a : ℕ) → AllIn a cuts →
       length (bytes_at a cuts) ≡ 0
   cuts_empty still [] a all = none_taken (past.takes q)
   cuts_empty still (c ∷ cuts) a all =
-      let none = unmoved_none d right field described kind c q still in
-      let few = k.placed.few a (instr_on d right field described kind c) q all.0 in
+      let none = unmoved_none d held field described kind c q still in
+      let few = k.placed.few a (instr_on d held field described kind c) q all.0 in
       let later = cuts_empty still cuts (behind a c) all.1 in
       let long = split_long c cuts a all.0 in
       omega arith
 
   -- a line's instructions are in it
-  pub all_in : (x : ℕ) (tail : List Instr) (ctl : Ctl) (to : ℕ) → IsOne d right field described kind →
-      IsBegin d right field described kind x → HoldsFrom (compiled d) x (line_of d right field described kind ++ tail) ctl to →
-      (done : List ℕ) (cuts : List Cut) (a : ℕ) → addresses_from x (line_of d right field described kind)
-      ≡ done ++ addresses_from a (instrs_of_cuts cuts) → HoldsFrom (compiled d) a (instrs_of_cuts cuts ++ tail) ctl to → AllIn a cuts
+  pub all_in : (x : ℕ) (tail : List Instr) (ctl : Ctl) (to : ℕ) → IsOne d held field described kind →
+      IsBegin d held field described kind x → HoldsFrom held.program x (line_of d held field described kind ++ tail) ctl to →
+      (done : List ℕ) (cuts : List Cut) (a : ℕ) → addresses_from x (line_of d held field described kind)
+      ≡ done ++ addresses_from a (instrs_of_cuts cuts) → HoldsFrom held.program a (instrs_of_cuts cuts ++ tail) ctl to → AllIn a cuts
   all_in x tail ctl to within begins holds done [] a is here = tt
   all_in x tail ctl to within begins holds done (c ∷ cuts) a is here =
-      let i = instr_on d right field described kind c in
+      let i = instr_on d held field described kind c in
       let later = addresses_from (a + 4 * length (encoded i)) (instrs_of_cuts cuts) in (
-        on_line d right field described kind x tail ctl to done later a i within begins holds is here.0,
+        on_line d held field described kind x tail ctl to done later a i within begins holds is here.0,
         all_in x tail ctl to within begins holds (done ++ a ∷ []) cuts (a + 4 * length (encoded i))
             (is ∙ sym (append_assoc done (a ∷ []) later)) here.3,
       )

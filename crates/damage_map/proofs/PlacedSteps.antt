@@ -36,19 +36,19 @@ use Rattle.machine_model.proofs.BeforeTurns.{fetch-KnownAt}
 use Rattle.machine_model.proofs.Stored.{memory-turn}
 use Rattle.capture_desc.specs.declared.desc.Desc.{Desc}
 use Rattle.picture_model.specs.Described.{describes}
-use Rattle.picture_model.specs.Programs.{compiled, sync}
-use Rattle.picture_model.proofs.FaultlessGeometry.{IsRight}
+use Rattle.picture_model.specs.Programs.{sync}
 use Rattle.field_law.specs.Arrivals.{is_queue}
 use Rattle.field_law.specs.Sections.{HoldsFrom, IsPlain, laid, words_in}
 use Rattle.field_law.proofs.Running.{done_rest}
 use Rattle.damage_law.specs.Marks.{addresses_from, is_among}
 use Rattle.damage_law.specs.Takings.{Taking, burst_takings, ran_takings, retired_at, served_takings, step_retires, step_takings, takings_if}
 use Rattle.damage_law.specs.Takings.{worked_takings}
+use Rattle.damage_law.proofs.Held.{IsHeld}
 use Rattle.damage_law.proofs.Pieces.{pieces_apart, pieces_granted}
 use Rattle.damage_law.proofs.PlacedTakes.{address_on, count_on, placed_more, same_queue_or}
 use Rattle.damage_law.proofs.StoredTakes.{Laid, burst-Laid, moved_twice, taken_bytes, taken_bytes-append}
 use Rattle.damage_map.specs.Tracks.{FieldTrack, untold}
-use Rattle.damage_map.proofs.Compiled.{section_lines}
+use Rattle.damage_map.proofs.Compiled.{section_lines_at}
 use Rattle.damage_map.proofs.PlacedLines.{begin_of, instr_of_read, piece_there, words_before}
 use Rattle.damage_map.proofs.PlacedTurns.{IsIn, JobHas, KeepsBytes, PlacedIn, RunsFrom, Sorted, burst_ats, burst_pc, bytes_with}
 use Rattle.damage_map.proofs.PlacedTurns.{fetched_has, had_of, plain_off, sorted_more, takes_apart}
@@ -99,13 +99,13 @@ gave_retires : (gave : Bool) (q : Queue) (at : ℕ) → retired_at (if gave then
 gave_retires true q at = refl
 gave_retires false q at = refl
 
-module _ (d : Desc) (right : IsRight d) (field : Parity) (described : describes d.fields field ≡ true) (m : State) (past : Past)
-    (k : KeepsBytes d right field described m past) where
+module _ (d : Desc) (held : IsHeld d) (field : Parity) (described : describes d.fields field ≡ true) (m : State) (past : Past)
+    (k : KeepsBytes d held field described m past) where
   abbrev Bytes : State → Past → Type 0
-  Bytes after next = KeepsBytes d right field described after next
+  Bytes after next = KeepsBytes d held field described after next
 
   abbrev Has : State → Type 0
-  Has after = JobHas d right field described after.pc after.job past
+  Has after = JobHas d held field described after.pc after.job past
 
   abbrev pub next_bytes : (Queue → List Taking) → List ℕ → Past
   next_bytes new rs = record { takes = λ q. past.takes q ++ new q; retired = past.retired ++ rs }
@@ -120,7 +120,7 @@ module _ (d : Desc) (right : IsRight d) (field : Parity) (described : describes 
   pub quiet_bytes : (after : State) (new : Queue → List Taking) (rs : List ℕ) → after.memory ≡ m.memory → Has after →
       ((q : Queue) → new q ≡ []) → rs ≡ [] → Bytes after (next_bytes new rs)
   quiet_bytes after new rs memory has none unretired =
-      subst (Bytes after) (sym (same_past new rs none unretired)) (bytes_with d right field described m after past memory has k)
+      subst (Bytes after) (sym (same_past new rs none unretired)) (bytes_with d held field described m after past memory has k)
 
   -- ---- a SYNC waits
 
@@ -129,7 +129,7 @@ module _ (d : Desc) (right : IsRight d) (field : Parity) (described : describes 
   unless_has false x h = h
 
   waiting_has : (ctl : Ctl) (resync : Bool) (code : Code) → m.job ≡ Waiting ctl resync code → (q : Queue) → TakenBelow m.pc (past.takes q)
-  waiting_has ctl resync code j = subst (λ (job : Job). JobHas d right field described m.pc job past) j k.job
+  waiting_has ctl resync code j = subst (λ (job : Job). JobHas d held field described m.pc job past) j k.job
 
   met_has : (same : Bool) (ctl : Ctl) (resync : Bool) (x : State) → ((q : Queue) → TakenBelow x.pc (past.takes q)) → Has x →
       Has (met same ctl resync x)
@@ -189,17 +189,18 @@ module _ (d : Desc) (right : IsRight d) (field : Parity) (described : describes 
     idle_bytes : (i : Instr) → m.risc_on ≡ true → m.job ≡ Idle → fetch m.program m.pc ≡ Ok (i, length (encoded i)) → IsPlain i → TurnBytes
     idle_bytes i on j read plain =
         let below : (q : Queue) → TakenBelow m.pc (past.takes q) =
-        subst (λ (job : Job). JobHas d right field described m.pc job past) j k.job in
+        subst (λ (job : Job). JobHas d held field described m.pc job past) j k.job in
         quiet_bytes (turn m) (λ q. step_takings q (gone q) m Turn) (step_retires m Turn) (memory_is on Idle j)
         (subst Has (sym (turn_is on Idle j ∙ ap (λ (r : Reading). fetched r (counted m)) read))
-        (fetched_has d right field described m past j below i plain))
+        (fetched_has d held field described m past j below i plain))
         (λ q. takes_is on Idle j q (gone q))
         (retires_is on Idle j ∙ ap (λ (r : Reading). retired_at (fetched_did r m.skipping) m.pc) read ∙ fetched_retires i m.skipping m.pc)
 
     -- ---- an instruction runs
 
     module _ (closing : Ctl) (target end : ℕ) (t : FieldTrack)
-        (l : InLine (compiled d) closing target end (section_lines d field) m t past gone) (ds : Demands) (on : m.risc_on ≡ true)
+        (l : InLine held.program closing target end (section_lines_at d (held.begin field) field) m t past gone) (ds : Demands)
+        (on : m.risc_on ≡ true)
         (j : m.job ≡ Running l.instr ds) where
       abbrev here : ℕ
       here = l.here
@@ -210,45 +211,45 @@ module _ (d : Desc) (right : IsRight d) (field : Parity) (described : describes 
       at_here : address_before m.pc l.instr ≡ here
       at_here = let there = line_pc in omega arith
 
-      is_in : IsIn d right field described here l.instr
+      is_in : IsIn d held field described here l.instr
       is_in =
-          piece_there d right field described l.lines (lines_at (here + 4 * words_in (l.instr ∷ l.rest)) l.parts) l.done
+          piece_there d held field described l.lines (lines_at (here + 4 * words_in (l.instr ∷ l.rest)) l.parts) l.done
           (addresses_from (here + 4 * length (encoded l.instr)) l.rest) here l.instr l.whole l.stands.0
 
-      only : (i : Instr) → IsIn d right field described here i → i ≡ l.instr
-      only i is = instr_of_read i l.instr (length (encoded i)) (length (encoded l.instr)) (compiled d) here is.read l.stands.0
+      only : (i : Instr) → IsIn d held field described here i → i ≡ l.instr
+      only i is = instr_of_read i l.instr (length (encoded i)) (length (encoded l.instr)) held.program here is.read l.stands.0
 
       long : 0 < length (encoded l.instr)
       long =
-          let known = fetch-KnownAt (compiled d) here l.instr (length (encoded l.instr)) l.stands.0 in
+          let known = fetch-KnownAt held.program here l.instr (length (encoded l.instr)) l.stands.0 in
           let positive = known.positive in omega arith
 
       below_pc : (q : Queue) → TakenBelow m.pc (past.takes q)
       below_pc q = let there = line_pc in let some = long in taken_more (here + 1) m.pc (past.takes q) (omega arith) (l.through.taken q)
 
-      had_runs : (q : Queue) → RunsFrom d right field described here l.instr ds past q
+      had_runs : (q : Queue) → RunsFrom d held field described here l.instr ds past q
       had_runs q =
-          subst (λ (a : ℕ). RunsFrom d right field described a l.instr ds past q) at_here
-          (subst (λ (job : Job). JobHas d right field described m.pc job past) j k.job q)
+          subst (λ (a : ℕ). RunsFrom d held field described a l.instr ds past q) at_here
+          (subst (λ (job : Job). JobHas d held field described m.pc job past) j k.job q)
 
       -- it retires
       abbrev none_new : Queue → List Taking
       none_new q = []
 
-      had_same : (rs : List ℕ) → had_of d right field described (next_bytes none_new rs) ≡ had_of d right field described past
+      had_same : (rs : List ℕ) → had_of d held field described (next_bytes none_new rs) ≡ had_of d held field described past
       had_same rs = λ i a q. taken_bytes (takes_in (a ∷ []) (append-nil (past.takes q) i))
 
-      retired_full : is_done ds ≡ true → (a : ℕ) (i : Instr) (q : Queue) → IsIn d right field described a i →
+      retired_full : is_done ds ≡ true → (a : ℕ) (i : Instr) (q : Queue) → IsIn d held field described a i →
           (is_among past.retired a ≡ true) ⊎ (is_among (here ∷ []) a ≡ true) →
-          length (had_of d right field described past a q) ≡ count_on q i
+          length (had_of d held field described past a q) ≡ count_on q i
       retired_full done a i q is (inl old) = k.full a i q is old
       retired_full done a i q is (inr new) =
           let same : a ≡ here = eqb-true a here (by_or (a == here) new) in
-          let instr = only i (subst (λ (b : ℕ). IsIn d right field described b i) same is) in
+          let instr = only i (subst (λ (b : ℕ). IsIn d held field described b i) same is) in
           let all = (had_runs q).0 in
           let none = done_rest ds done q in
-          let count : length (had_of d right field described past here q) ≡ count_on q l.instr = omega arith in
-          ap (λ (b : ℕ). length (had_of d right field described past b q)) same ∙ count ∙ ap (count_on q) (sym instr)
+          let count : length (had_of d held field described past here q) ≡ count_on q l.instr = omega arith in
+          ap (λ (b : ℕ). length (had_of d held field described past b q)) same ∙ count ∙ ap (count_on q) (sym instr)
         where
           by_or : (b : Bool) → (b || false) ≡ true → b ≡ true
           by_or true is = refl
@@ -258,7 +259,7 @@ module _ (d : Desc) (right : IsRight d) (field : Parity) (described : describes 
       retires_bytes done =
           record {
             chunks = k.chunks;
-            placed = subst (PlacedIn d right field described m.memory) (sym (had_same (here ∷ []))) k.placed;
+            placed = subst (PlacedIn d held field described m.memory) (sym (had_same (here ∷ []))) k.placed;
             full =
                 λ a i q is among.
                 subst (λ (had : ℕ → Queue → List ℕ). length (had a q) ≡ count_on q i) (sym (had_same (here ∷ [])))
@@ -297,10 +298,10 @@ module _ (d : Desc) (right : IsRight d) (field : Parity) (described : describes 
         next_past = next_bytes new_on []
 
         abbrev had : ℕ → Queue → List ℕ
-        had = had_of d right field described past
+        had = had_of d held field described past
 
         abbrev had_next : ℕ → Queue → List ℕ
-        had_next = had_of d right field described next_past
+        had_next = had_of d held field described next_past
 
         plain : instr_off l.instr ≡ 0
         plain = plain_off l.instr l.stands.1
@@ -349,9 +350,9 @@ module _ (d : Desc) (right : IsRight d) (field : Parity) (described : describes 
             (ats_on p)))
 
         runs_by : (left : Demands) → (burst m.trigger q (counted m)).job ≡ Running l.instr left → (p : Queue) → (p ≡ q) ⊎ (p ≡ q → ⊥) →
-            RunsFrom d right field described here l.instr left next_past p
+            RunsFrom d held field described here l.instr left next_past p
         runs_by left runs p (inl same) =
-            subst (λ (x : Queue). RunsFrom d right field described here l.instr left next_past x) (sym same)
+            subst (λ (x : Queue). RunsFrom d held field described here l.instr left next_past x) (sym same)
             (let g = made.goes_on left runs in
             let size : length (had_next here q) ≡ length (had here q) + length (taken_bytes taken) =
             ap (λ (bytes : List ℕ). length bytes) grows ∙ length-append (had here q) (taken_bytes taken) in
@@ -373,18 +374,18 @@ module _ (d : Desc) (right : IsRight d) (field : Parity) (described : describes 
               ap (λ x. x.address) demand ∙ (had_runs p).1 ∙ ap (λ (n : ℕ). option_map (λ s. s + n) (address_on p l.instr)) (sym size),
             )
 
-        job_after : JobHas d right field described (turn m).pc (turn m).job next_past
+        job_after : JobHas d held field described (turn m).pc (turn m).job next_past
         job_after =
-            subst (λ (job : Job). JobHas d right field described (turn m).pc job next_past) (ap (λ (x : State). x.job) (sym turn_burst))
+            subst (λ (job : Job). JobHas d held field described (turn m).pc job next_past) (ap (λ (x : State). x.job) (sym turn_burst))
             (elim made.ends [
-              | inl idle ↦ subst (λ (job : Job). JobHas d right field described (turn m).pc job next_past) (sym idle) below_after
-              | inr runs ↦ subst (λ (job : Job). JobHas d right field described (turn m).pc job next_past) (sym runs.1)
+              | inl idle ↦ subst (λ (job : Job). JobHas d held field described (turn m).pc job next_past) (sym idle) below_after
+              | inr runs ↦ subst (λ (job : Job). JobHas d held field described (turn m).pc job next_past) (sym runs.1)
                   (λ p.
-                  subst (λ (a : ℕ). RunsFrom d right field described a l.instr runs.0 next_past p)
+                  subst (λ (a : ℕ). RunsFrom d held field described a l.instr runs.0 next_past p)
                   (sym (ap (λ (pc : ℕ). address_before pc l.instr) pc_after ∙ at_here)) (runs_by runs.0 runs.1 p (same_queue_or p q)))
             ])
 
-        full_after : (a : ℕ) (i : Instr) (p : Queue) → IsIn d right field described a i → is_among next_past.retired a ≡ true →
+        full_after : (a : ℕ) (i : Instr) (p : Queue) → IsIn d held field described a i → is_among next_past.retired a ≡ true →
             length (had_next a p) ≡ count_on p i
         full_after a i p is among =
             let old : is_among past.retired a ≡ true = ap (λ (r : List ℕ). is_among r a) (sym (append-nil past.retired)) ∙ among in
@@ -400,10 +401,10 @@ module _ (d : Desc) (right : IsRight d) (field : Parity) (described : describes 
             record {
               chunks = ap chunks_of memory_after ∙ chunks_kept ∙ k.chunks;
               placed =
-                  subst (λ (memory : List Block). PlacedIn d right field described memory had_next) (sym memory_after)
-                  (placed_more (IsIn d right field described) (compiled d).grants
-                  (pieces_apart d right field described (begin_of d right field described) (words_before d right field described))
-                  (pieces_granted d right field described (begin_of d right field described) (words_before d right field described))
+                  subst (λ (memory : List Block). PlacedIn d held field described memory had_next) (sym memory_after)
+                  (placed_more (IsIn d held field described) held.program.grants
+                  (pieces_apart d held field described (begin_of d held field described) (words_before d held field described))
+                  (pieces_granted d held field described (begin_of d held field described) (words_before d held field described))
                   m.memory had had_next here l.instr q (taken_bytes taken) k.chunks is_in grows others room only k.placed);
               full = full_after;
               sorted = λ p. sorted_more here (past.takes p) (new_on p) (k.sorted p) (l.through.taken p) (ats_on p);
@@ -472,51 +473,52 @@ module _ (d : Desc) (right : IsRight d) (field : Parity) (described : describes 
 
     -- ---- a turn that doesn't close the section
 
-    module _ (closing : Ctl) (target end : ℕ) (t : FieldTrack) (program_is : m.program ≡ compiled d)
-        (plainly : m.risc_on ≡ true → m.job ≡ Idle → Plainly (fetch (compiled d) m.pc)) where
-      read_there : (i : Instr) → fetch (compiled d) m.pc ≡ Ok (i, length (encoded i)) → fetch m.program m.pc ≡ Ok (i, length (encoded i))
+    module _ (closing : Ctl) (target end : ℕ) (t : FieldTrack) (program_is : m.program ≡ held.program)
+        (plainly : m.risc_on ≡ true → m.job ≡ Idle → Plainly (fetch held.program m.pc)) where
+      read_there : (i : Instr) → fetch held.program m.pc ≡ Ok (i, length (encoded i)) → fetch m.program m.pc ≡ Ok (i, length (encoded i))
       read_there i read = ap (λ (p : RiscProgram). fetch p m.pc) program_is ∙ read
 
-      gap_idle : (body : List Instr) → HoldsFrom (compiled d) m.pc body closing target → m.risc_on ≡ true → m.job ≡ Idle → TurnBytes
+      gap_idle : (body : List Instr) → HoldsFrom held.program m.pc body closing target → m.risc_on ≡ true → m.job ≡ Idle → TurnBytes
       gap_idle (i ∷ body) holds on j = idle_bytes i on j (read_there i holds.0) holds.1
       gap_idle [] holds on j = absurd (by_plain p.plain)
         where
-          p : Plainly (fetch (compiled d) m.pc)
+          p : Plainly (fetch held.program m.pc)
           p = plainly on j
 
           same : p.instr ≡ Jump closing target
-          same = instr_of_read p.instr (Jump closing target) p.many 2 (compiled d) m.pc p.read holds.0
+          same = instr_of_read p.instr (Jump closing target) p.many 2 held.program m.pc p.read holds.0
 
           by_plain : (is_data p.instr ≡ true) ⊎ ((code : Code) × (p.instr ≡ sync false code)) → ⊥
           by_plain (inl data_is) = let none : false ≡ true = ap is_data (sym same) ∙ data_is in cc
           by_plain (inr awaits) = let other : sync false awaits.0 ≡ Jump closing target = sym awaits.1 ∙ same in cc
 
       by_job : (job : Job) → m.job ≡ job → m.risc_on ≡ true →
-          Visit (compiled d) closing target end (section_lines d field) m t past gone → TurnBytes
+          Visit held.program closing target end (section_lines_at d (held.begin field) field) m t past gone → TurnBytes
       by_job (Waiting ctl resync code) j on visit = waiting_bytes ctl resync code on j
       by_job Idle j on (inl g) =
-          gap_idle (instrs_of g.parts) (subst (λ (pc : ℕ). HoldsFrom (compiled d) pc (instrs_of g.parts) closing target)
+          gap_idle (instrs_of g.parts) (subst (λ (pc : ℕ). HoldsFrom held.program pc (instrs_of g.parts) closing target)
           (sym (subst (λ (job : Job). GapJob g.here m.pc job) j g.job)) g.stands) on j
       by_job Idle j on (inr l) =
           let there = (subst (λ (job : Job). LineJob l.here l.begins l.moved l.instr m.pc m.skipping t.lost t.marks job) j l.job).0 in
-          idle_bytes l.instr on j (read_there l.instr (ap (fetch (compiled d)) there ∙ l.stands.0)) l.stands.1
+          idle_bytes l.instr on j (read_there l.instr (ap (fetch held.program) there ∙ l.stands.0)) l.stands.1
       by_job (Running runs ds) j on (inl g) = absurd (subst (λ (job : Job). GapJob g.here m.pc job) j g.job)
       by_job (Running runs ds) j on (inr l) =
           let same = (subst (λ (job : Job). LineJob l.here l.begins l.moved l.instr m.pc m.skipping t.lost t.marks job) j l.job).0 in
           runs_bytes closing target end t l ds on (j ∙ ap (λ (i : Instr). Running i ds) same)
 
-      by_risc : (on : Bool) → m.risc_on ≡ on → Visit (compiled d) closing target end (section_lines d field) m t past gone → TurnBytes
+      by_risc : (on : Bool) → m.risc_on ≡ on →
+          Visit held.program closing target end (section_lines_at d (held.begin field) field) m t past gone → TurnBytes
       by_risc false off visit = off_bytes off
       by_risc true on visit = by_job m.job refl on visit
 
-      pub turn_bytes : Visit (compiled d) closing target end (section_lines d field) m t past gone → TurnBytes
+      pub turn_bytes : Visit held.program closing target end (section_lines_at d (held.begin field) field) m t past gone → TurnBytes
       turn_bytes visit = by_risc m.risc_on refl visit
 
 -- behind an opening nothing was taken
-pub fresh_bytes : (d : Desc) (right : IsRight d) (field : Parity) (described : describes d.fields field ≡ true) (m : State) (past : Past) →
-    chunks_of m.memory ≡ (compiled d).grants → ((q : Queue) → past.takes q ≡ []) →
-    past.retired ≡ [] → JobHas d right field described m.pc m.job past → KeepsBytes d right field described m past
-fresh_bytes d right field described m past chunks none unretired job =
+pub fresh_bytes : (d : Desc) (held : IsHeld d) (field : Parity) (described : describes d.fields field ≡ true) (m : State) (past : Past) →
+    chunks_of m.memory ≡ held.program.grants → ((q : Queue) → past.takes q ≡ []) →
+    past.retired ≡ [] → JobHas d held field described m.pc m.job past → KeepsBytes d held field described m past
+fresh_bytes d held field described m past chunks none unretired job =
     record {
       chunks = chunks;
       placed = record {
@@ -528,5 +530,5 @@ fresh_bytes d right field described m past chunks none unretired job =
       job = job;
     }
   where
-    empty : (a : ℕ) (p : Queue) → length (had_of d right field described past a p) ≡ 0
+    empty : (a : ℕ) (p : Queue) → length (had_of d held field described past a p) ≡ 0
     empty a p = ap (λ (ts : List Taking). length (taken_bytes (takes_in (a ∷ []) ts))) (none p)

@@ -28,11 +28,10 @@ use Rattle.machine_model.specs.Turns.{apply, apply_in, begun_with, burst, counte
 use Rattle.machine_model.specs.Turns.{is_cut_short, judged, served, took, verdict_at}
 use Rattle.capture_desc.specs.declared.desc.Desc.{Desc}
 use Rattle.picture_model.specs.Described.{describes}
-use Rattle.picture_model.specs.Programs.{compiled}
-use Rattle.picture_model.proofs.FaultlessGeometry.{IsRight}
 use Rattle.field_law.specs.Sections.{IsPlain}
 use Rattle.damage_law.specs.Marks.{is_among}
 use Rattle.damage_law.specs.Takings.{Taking, burst_takings, left, taking_by, takings_of}
+use Rattle.damage_law.proofs.Held.{IsHeld}
 use Rattle.damage_law.proofs.Pieces.{pieces_apart, pieces_granted}
 use Rattle.damage_law.proofs.PlacedTakes.{Placed, address_on, count_on}
 use Rattle.damage_law.proofs.StoredTakes.{taken_bytes}
@@ -154,18 +153,18 @@ moved_nowhere (Some at) = ap (λ (a : ℕ). Some a) (omega arith)
 
 -- ---- what is known of memory
 
-module _ (d : Desc) (right : IsRight d) (field : Parity) (described : describes d.fields field ≡ true) where
+module _ (d : Desc) (held : IsHeld d) (field : Parity) (described : describes d.fields field ≡ true) where
   abbrev pub IsIn : ℕ → Instr → Type 0
-  IsIn a i = PieceThere d right field described a i
+  IsIn a i = PieceThere d held field described a i
 
   abbrev pub had_of : Past → ℕ → Queue → List ℕ
   had_of past a q = taken_bytes (takes_in (a ∷ []) (past.takes q))
 
   abbrev pub PlacedIn : List Block → (ℕ → Queue → List ℕ) → Type 0
   PlacedIn memory had =
-      Placed IsIn (compiled d).grants
-      (pieces_apart d right field described (begin_of d right field described) (words_before d right field described))
-      (pieces_granted d right field described (begin_of d right field described) (words_before d right field described)) memory had
+      Placed IsIn held.program.grants
+      (pieces_apart d held field described (begin_of d held field described) (words_before d held field described))
+      (pieces_granted d held field described (begin_of d held field described) (words_before d held field described)) memory had
 
   -- what is still asked by the instruction that runs, and from where on it goes on to write
   abbrev pub RunsFrom : ℕ → Instr → Demands → Past → Queue → Type 0
@@ -179,7 +178,7 @@ module _ (d : Desc) (right : IsRight d) (field : Parity) (described : describes 
   JobHas pc (Running runs ds) past = (q : Queue) → RunsFrom (address_before pc runs) runs ds past q
 
   pub record KeepsBytes (m : State) (past : Past) : Type 0 where
-    pub chunks : chunks_of m.memory ≡ (compiled d).grants
+    pub chunks : chunks_of m.memory ≡ held.program.grants
     pub placed : PlacedIn m.memory (had_of past)
     pub full : (a : ℕ) (i : Instr) (q : Queue) → IsIn a i → is_among past.retired a ≡ true → length (had_of past a q) ≡ count_on q i
     pub sorted : (q : Queue) → Sorted (past.takes q)

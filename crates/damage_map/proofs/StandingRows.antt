@@ -52,10 +52,11 @@ use Rattle.picture_law.proofs.BytePlaces.{queue_plane, queue_row_goes, row_track
 use Rattle.field_law.proofs.Lines.{valid-most}
 use Rattle.damage_law.specs.Lines.{AreInOrder, are_line, entries_taken, follow_on, make_line, no_takings}
 use Rattle.damage_law.specs.Marks.{addresses_from, before_rows, is_among, is_opening, is_whole, last_step, later_or, lines_from, marks}
-use Rattle.damage_law.specs.Marks.{row_addresses, takings_at}
+use Rattle.damage_law.specs.Marks.{row_addresses, row_addresses_at, takings_at}
 use Rattle.damage_law.specs.Orders.{stream}
 use Rattle.damage_law.specs.Standing.{IsSignalSince, StandsAt, WholeRowsStand, row_entries}
 use Rattle.damage_law.specs.Takings.{Taking, retires, step_takings, takings}
+use Rattle.damage_law.proofs.Held.{IsHeld, compiled_held}
 use Rattle.damage_law.proofs.LineBytes.{line_bytes}
 use Rattle.damage_law.proofs.Orders.{at, filtered, takes_in_order}
 use Rattle.damage_law.proofs.Pieces.{Kind, OfSkipped, OfRow, cuts_on, fit_of, strip_of}
@@ -74,13 +75,14 @@ use Rattle.damage_map.proofs.SectionTurns.{Turned, turn_on}
 
 -- ---- lists
 
-index_map : (f : List ℕ → Bool) (xs : List (List ℕ)) (n : ℕ) → slice_index_or (map f xs) n false ≡ true → f (slice_index_or xs n []) ≡ true
+pub index_map : (f : List ℕ → Bool) (xs : List (List ℕ)) (n : ℕ) → slice_index_or (map f xs) n false ≡ true →
+    f (slice_index_or xs n []) ≡ true
 index_map f [] zero is = cc
 index_map f [] (suc n) is = cc
 index_map f (x ∷ xs) zero is = is
 index_map f (x ∷ xs) (suc n) is = index_map f xs n is
 
-index_below : (f : List ℕ → Bool) (xs : List (List ℕ)) (n : ℕ) → slice_index_or (map f xs) n false ≡ true → n < length xs
+pub index_below : (f : List ℕ → Bool) (xs : List (List ℕ)) (n : ℕ) → slice_index_or (map f xs) n false ≡ true → n < length xs
 index_below f [] zero is = cc
 index_below f [] (suc n) is = cc
 index_below f (x ∷ xs) zero is = omega arith
@@ -144,54 +146,55 @@ keeps_opened d right skips (s ∷ steps) m t opens_since tolds made h =
 
 -- ---- a row by its number
 
-module _ (d : Desc) (right : IsRight d) (field : Parity) (described : describes d.fields field ≡ true) where
+module _ (d : Desc) (held : IsHeld d) (field : Parity) (described : describes d.fields field ≡ true) where
   pub record RowAt (kind : Kind) (addresses : List ℕ) : Type 0 where
     pub begin : ℕ
     pub tail : List Instr
-    pub one : IsOne d right field described kind
-    pub begins : IsBegin d right field described kind begin
-    pub holds : HoldsFrom (compiled d) begin (line_of d right field described kind ++ tail) (signal field) (to d right field described)
-    pub same : addresses ≡ addresses_from begin (line_of d right field described kind)
+    pub one : IsOne d held field described kind
+    pub begins : IsBegin d held field described kind begin
+    pub holds : HoldsFrom held.program begin (line_of d held field described kind ++ tail) (signal field) (to d held field described)
+    pub same : addresses ≡ addresses_from begin (line_of d held field described kind)
 
-  row_index : (kinds : List Kind) (x n : ℕ) (tail : List Instr) → n < length kinds → Each (IsOne d right field described) kinds →
-      BeginAt d right field described x kinds →
-      HoldsFrom (compiled d) x (lines_of d right field described kinds ++ tail) (signal field) (to d right field described) →
-      RowAt (slice_index_or kinds n OfSkipped) (slice_index_or (lines_from x (map (line_of d right field described) kinds)) n [])
+  row_index : (kinds : List Kind) (x n : ℕ) (tail : List Instr) → n < length kinds → Each (IsOne d held field described) kinds →
+      BeginAt d held field described x kinds →
+      HoldsFrom held.program x (lines_of d held field described kinds ++ tail) (signal field) (to d held field described) →
+      RowAt (slice_index_or kinds n OfSkipped) (slice_index_or (lines_from x (map (line_of d held field described) kinds)) n [])
   row_index [] x n tail below each begins holds = absurd (omega arith)
   row_index (kind ∷ kinds) x zero tail below each begins holds =
       record {
         begin = x;
-        tail = lines_of d right field described kinds ++ tail;
+        tail = lines_of d held field described kinds ++ tail;
         one = each.0;
         begins = begins.0;
         holds =
-            subst (λ (is : List Instr). HoldsFrom (compiled d) x is (signal field) (to d right field described))
-            (append_assoc (line_of d right field described kind) (lines_of d right field described kinds) tail) holds;
+            subst (λ (is : List Instr). HoldsFrom held.program x is (signal field) (to d held field described))
+            (append_assoc (line_of d held field described kind) (lines_of d held field described kinds) tail) holds;
         same = refl;
       }
   row_index (kind ∷ kinds) x (suc n) tail below each begins holds =
-      row_index kinds (x + 4 * words_in (line_of d right field described kind)) n tail (omega arith) each.1 begins.1
-      (holds_behind (compiled d) x (line_of d right field described kind) (lines_of d right field described kinds ++ tail) (signal field)
-      (to d right field described)
-      (subst (λ (is : List Instr). HoldsFrom (compiled d) x is (signal field) (to d right field described))
-      (append_assoc (line_of d right field described kind) (lines_of d right field described kinds) tail) holds))
+      row_index kinds (x + 4 * words_in (line_of d held field described kind)) n tail (omega arith) each.1 begins.1
+      (holds_behind held.program x (line_of d held field described kind) (lines_of d held field described kinds ++ tail) (signal field)
+      (to d held field described)
+      (subst (λ (is : List Instr). HoldsFrom held.program x is (signal field) (to d held field described))
+      (append_assoc (line_of d held field described kind) (lines_of d held field described kinds) tail) holds))
 
-  row_at : (number : ℕ) → number < field_height d field → RowAt (OfRow number) (slice_index_or (row_addresses d field) number [])
+  row_at : (number : ℕ) → number < field_height d field →
+      RowAt (OfRow number) (slice_index_or (row_addresses_at (held.begin field) d field) number [])
   row_at number below =
       let height = field_height d field in
       let here : 0 + number ≡ number = omega arith in
-      let start : rows_begin d right field described + 4 * 0 ≡ rows_begin d right field described = omega arith in
-      let kind : slice_index_or (row_kinds d right field described) number OfSkipped ≡ OfRow number =
+      let start : rows_begin d held field described + 4 * 0 ≡ rows_begin d held field described = omega arith in
+      let kind : slice_index_or (row_kinds d held field described) number OfSkipped ≡ OfRow number =
       get_or-map-range_with_len OfRow 0 height number number OfSkipped below here in
-      subst (λ (k : Kind). RowAt k (slice_index_or (row_addresses d field) number [])) kind
-      (subst (λ (lines : List (List Instr)). RowAt (slice_index_or (row_kinds d right field described) number OfSkipped)
-      (slice_index_or (lines_from (rows_begin d right field described) lines) number [])) (sym (rows_map d right field described))
-      (row_index (row_kinds d right field described) (rows_begin d right field described) number []
+      subst (λ (k : Kind). RowAt k (slice_index_or (row_addresses_at (held.begin field) d field) number [])) kind
+      (subst (λ (lines : List (List Instr)). RowAt (slice_index_or (row_kinds d held field described) number OfSkipped)
+      (slice_index_or (lines_from (rows_begin d held field described) lines) number [])) (sym (rows_map d held field described))
+      (row_index (row_kinds d held field described) (rows_begin d held field described) number []
       (subst (λ (n : ℕ). number < n) (sym (kinds_long 0 height)) below)
-      (each_map (λ k. k < height) (IsOne d right field described) OfRow (range_with_len 0 height) (λ k less. less)
+      (each_map (λ k. k < height) (IsOne d held field described) OfRow (range_with_len 0 height) (λ k less. less)
       (each_range 0 height height (omega arith)))
-      (subst (λ (x : ℕ). BeginAt d right field described x (row_kinds d right field described)) start
-      (rows_begin_at d right field described 0 height)) (rows_hold d right field described)))
+      (subst (λ (x : ℕ). BeginAt d held field described x (row_kinds d held field described)) start
+      (rows_begin_at d held field described 0 height)) (rows_hold d held field described)))
     where
       kinds_long : (n count : ℕ) → length (map OfRow (range_with_len n count)) ≡ count
       kinds_long n zero = refl
@@ -214,11 +217,11 @@ lacks_moves false Two lacks = refl
 lacks_moves false Three lacks = refl
 
 -- the bytes of a row on the plane of a queue
-row_long : (d : Desc) (right : IsRight d) (field : Parity) (described : describes d.fields field ≡ true) (number : ℕ) (q : Queue) →
+row_long : (d : Desc) (held : IsHeld d) (field : Parity) (described : describes d.fields field ≡ true) (number : ℕ) (q : Queue) →
     has_plane d q ≡ true →
-    (strip_of d right field described (OfRow number)).grains * (track_on q (strip_of d right field described (OfRow number))).size
+    (strip_of d held field described (OfRow number)).grains * (track_on q (strip_of d held field described (OfRow number))).size
     ≡ plane_row_bytes d (plane_of q)
-row_long d right field described number q has =
+row_long d held field described number q has =
     ap (λ (t : Track). grains_of (layout_of d) d.width * t.size) (sym (row_track_on d (picture_row (both d) field number) q))
     ∙ row_grains d (plane_of q) (queue_plane d q has)
 
@@ -242,11 +245,11 @@ no_bytes entry_at (t ∷ rest) place x order none =
 
 -- ---- a whole row
 
-module _ (d : Desc) (right : IsRight d) (field : Parity) (described : describes d.fields field ≡ true) (m first : State) (since : List Step)
+module _ (d : Desc) (held : IsHeld d) (field : Parity) (described : describes d.fields field ≡ true) (m first : State) (since : List Step)
     (orderly : IsOrderly first) (made : All IsStep since)
-    (k : KeepsBytes d right field described m (past_of first since)) (q : Queue) (number : ℕ) where
+    (k : KeepsBytes d held field described m (past_of first since)) (q : Queue) (number : ℕ) where
   abbrev addresses : List ℕ
-  addresses = slice_index_or (row_addresses d field) number []
+  addresses = slice_index_or (row_addresses_at (held.begin field) d field) number []
 
   abbrev ts : List Taking
   ts = takings_at addresses q first since
@@ -290,43 +293,43 @@ module _ (d : Desc) (right : IsRight d) (field : Parity) (described : describes 
       record { line = parts.1; bytes = line_bytes (at (stream q first since)) ts 0 0 in_order parts.0 }
 
   abbrev cuts : List Cut
-  cuts = cuts_on d right field described (OfRow number)
+  cuts = cuts_on d held field described (OfRow number)
 
   -- the row's instructions
   module _ (below : number < field_height d field) where
-    r : RowAt d right field described (OfRow number) addresses
-    r = row_at d right field described number below
+    r : RowAt d held field described (OfRow number) addresses
+    r = row_at d held field described number below
 
-    all : AllIn d right field described m (past_of first since) k (OfRow number) q r.begin cuts
+    all : AllIn d held field described m (past_of first since) k (OfRow number) q r.begin cuts
     all =
-        all_in d right field described m (past_of first since) k (OfRow number) q r.begin r.tail (signal field)
-        (to d right field described) r.one r.begins r.holds [] cuts r.begin refl r.holds
+        all_in d held field described m (past_of first since) k (OfRow number) q r.begin r.tail (signal field)
+        (to d held field described) r.one r.begins r.holds [] cuts r.begin refl r.holds
 
     retired_there : is_whole first since addresses ≡ true →
-        AllRetired d right field described m (past_of first since) k (OfRow number) q r.begin cuts
+        AllRetired d held field described m (past_of first since) k (OfRow number) q r.begin cuts
     retired_there whole = ap (list_all (is_among (retires first since))) (sym r.same) ∙ (whole_parts whole).0
 
     -- where the row has the queue's plane, as many bytes as a row of it; else none
     pub taken_full : is_whole first since addresses ≡ true → has_plane d q ≡ true → length (taken_bytes ts) ≡ plane_row_bytes d (plane_of q)
     taken_full whole has =
-        let strip = strip_of d right field described (OfRow number) in
-        let follow = cuts_follow (memory_of d) strip (fit_of d right field described (OfRow number) below) in
+        let strip = strip_of d held field described (OfRow number) in
+        let follow = cuts_follow (memory_of d) strip (fit_of d held field described (OfRow number) below) in
         subst (λ (a : List ℕ). length (taken_bytes (takings_at a q first since)) ≡ plane_row_bytes d (plane_of q)) (sym r.same)
-        (cuts_full d right field described m (past_of first since) k (OfRow number) q
+        (cuts_full d held field described m (past_of first since) k (OfRow number) q
         (has_moves (layout_of d).planar q has) cuts r.begin all (retired_there whole)
-        ∙ all_bytes (memory_of d) (track_on q strip) strip.grains cuts follow ∙ row_long d right field described number q has)
+        ∙ all_bytes (memory_of d) (track_on q strip) strip.grains cuts follow ∙ row_long d held field described number q has)
 
     pub taken_none : has_plane d q ≡ false → length (taken_bytes ts) ≡ 0
     taken_none lacks =
         subst (λ (a : List ℕ). length (taken_bytes (takings_at a q first since)) ≡ 0) (sym r.same)
-        (cuts_empty d right field described m (past_of first since) k (OfRow number) q
+        (cuts_empty d held field described m (past_of first since) k (OfRow number) q
         (lacks_moves (layout_of d).planar q lacks) cuts r.begin all)
 
     untaken : has_plane d q ≡ false → ts ≡ []
     untaken lacks = no_bytes (at (stream q first since)) ts 0 0 in_order (taken_none lacks)
 
     wide : has_plane d q ≡ true → 5 ≤ plane_row_bytes d (plane_of q)
-    wide has = let plane = queue_plane d q has in right.wide (plane_of q) plane.low plane.high
+    wide has = let plane = queue_plane d q has in held.right.wide (plane_of q) plane.low plane.high
 
     asked_by : is_whole first since addresses ≡ true → (has : Bool) → has_plane d q ≡ has →
         AreAskedBy has (plane_row_bytes d (plane_of q)) (entries_taken ts)
@@ -354,11 +357,11 @@ module _ (d : Desc) (right : IsRight d) (field : Parity) (described : describes 
   -- ---- a byte of it
 
   module _ (x address : ℕ) (kept : IsKeptAt d field (of_row q number x) address) where
-    goes : address_in (line_parts_of (memory_of d) (track_on q (strip_of d right field described (OfRow number)))
-        (cuts_on d right field described (OfRow number))) x ≡ Some address
+    goes : address_in (line_parts_of (memory_of d) (track_on q (strip_of d held field described (OfRow number)))
+        (cuts_on d held field described (OfRow number))) x ≡ Some address
     goes =
         let row = picture_row (both d) field number in
-        queue_row_goes d right q row x kept.0.0 (row_below d field number kept.0.1) kept.0.2
+        queue_row_goes d held.right q row x kept.0.0 (row_below d field number kept.0.1) kept.0.2
         ∙ cond-false (byte_clipped d (plane_of q) row x) None (place d (plane_of q) row x) kept.0.3 ∙ kept.1
 
     taken_stands : is_whole first since addresses ≡ true →
@@ -366,7 +369,7 @@ module _ (d : Desc) (right : IsRight d) (field : Parity) (described : describes 
     taken_stands whole =
         let there = r kept.0.1 in
         let stands =
-        cuts_stand d right field described m (past_of first since) k (OfRow number) q
+        cuts_stand d held field described m (past_of first since) k (OfRow number) q
         (has_moves (layout_of d).planar q kept.0.0) cuts there.begin x address (all kept.0.1)
         (retired_there kept.0.1 whole) goes in
         subst (λ (a : List ℕ). (x < length (taken_bytes (takings_at a q first since)))
@@ -396,7 +399,8 @@ module _ (d : Desc) (right : IsRight d) (skips : SkipsFew d) (field : Parity) (d
 
   abbrev Found : Parity → State → List Step → Type 0
   Found g first since =
-      (e : describes d.fields g ≡ true) × (opens_since g ≡ Some (first, since)) × KeepsBytes d right g e m (past_of first since)
+      (e : describes d.fields g ≡ true) × (opens_since g ≡ Some (first, since))
+      × KeepsBytes d (compiled_held d right) g e m (past_of first since)
 
   inside_found : (i : Inside d right skips m t opens_since) →
       Turned (compiled d) (signal i.field) (next_of d right i.field) (end_of d right i.field) (section_lines d i.field)
@@ -487,9 +491,10 @@ module _ (d : Desc) (field : Parity) (fill : ℕ) (steps : List Step) (j k : ℕ
       pair_of : (p r : State × List Step) → Some p ≡ Some r → p ≡ r
       pair_of p r same = cc
 
-  bytes_there : KeepsBytes d right_there field there.2.0 before (past_of (state_of d fill steps j) (between j k steps))
+  bytes_there : KeepsBytes d (compiled_held d right_there) field there.2.0 before (past_of (state_of d fill steps j) (between j k steps))
   bytes_there =
-      subst (λ (p : State × List Step). KeepsBytes d right_there field there.2.0 before (past_of p.0 p.1)) same_opening there.2.2
+      subst (λ (p : State × List Step). KeepsBytes d (compiled_held d right_there) field there.2.0 before (past_of p.0 p.1)) same_opening
+      there.2.2
 
   -- a row that is marked is one of the field
   marked_below : (number : ℕ) → slice_index_or (marks d field (state_of d fill steps j) (between j k steps)) number false ≡ true →
@@ -516,7 +521,7 @@ module _ (d : Desc) (field : Parity) (fill : ℕ) (steps : List Step) (j k : ℕ
         StandsAt (row_entries d field number q (state_of d fill steps j) (between j k steps)) x address (state_of d fill steps (k + 1))
     whole_row x address kept =
         let stands =
-        row_stands d right_there field there.2.0 before (state_of d fill steps j)
+        row_stands d (compiled_held d right_there) field there.2.0 before (state_of d fill steps j)
         (between j k steps) orderly_there made_there bytes_there q number x address kept whole in
         let after : state_of d fill steps (k + 1) ≡ turn before =
         state_next start steps k is.there ∙ ap (λ (s : Step). step s before) last_turn in
@@ -527,14 +532,14 @@ module _ (d : Desc) (field : Parity) (fill : ℕ) (steps : List Step) (j k : ℕ
 
     whole_row_asked : AreAsked d q (row_entries d field number q (state_of d fill steps j) (between j k steps))
     whole_row_asked =
-        row_asked d right_there field there.2.0 before (state_of d fill steps j)
+        row_asked d (compiled_held d right_there) field there.2.0 before (state_of d fill steps j)
         (between j k steps) orderly_there made_there bytes_there q number (marked_below number mark) whole
 
     whole_row_unasked :
         (no_takings (takings_at (slice_index_or (row_addresses d field) number []) q (state_of d fill steps j) (between j k steps)) ≡ true)
         ↔ (has_plane d q ≡ false)
     whole_row_unasked =
-        row_unasked d right_there field there.2.0 before (state_of d fill steps j)
+        row_unasked d (compiled_held d right_there) field there.2.0 before (state_of d fill steps j)
         (between j k steps) orderly_there made_there bytes_there q number (marked_below number mark) whole
 
 pub whole_rows_took_asked : WholeRowsTookAsked

@@ -196,7 +196,7 @@ module _ (first second : Desc) (pair : IsPair first second) where
   grants_second : GrantsAll chain_is second
   grants_second address = in_second address (memory_of first) (memory_of second)
 
-  are_fragments : AreFragments chain_is
+  pub are_fragments : AreFragments chain_is
   are_fragments zero lt = (first, fragment 0 0 (omega arith) (omega arith), grants_first)
   are_fragments (suc zero) lt = (second, fragment 0 1 (omega arith) (omega arith), grants_second)
   are_fragments (suc (suc zero)) lt = (first, fragment 1 0 (omega arith) (omega arith), grants_first)

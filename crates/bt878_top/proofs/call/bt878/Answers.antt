@@ -9,7 +9,8 @@ use Rattle.machine_model.specs.States.{first_state}
 use Rattle.chain_law.specs.Runs.{LiveRunShowsNoFault, LiveRunShowsPictures, LiveRunSignalsInTime, LiveRunStaysInside}
 use Rattle.bt878_contract.proofs.Consequences.{bad_input_comes, bad_input_must, completes, done_assemble, done_capture, done_captured}
 use Rattle.bt878_contract.proofs.Consequences.{done_chain, done_check, done_compile, done_counts, done_damage, done_inside}
-use Rattle.bt878_contract.proofs.Consequences.{done_fragments, done_help, done_list, done_live, done_make, done_ring, done_run, done_sound}
+use Rattle.bt878_contract.proofs.Consequences.{done_fragments, done_help, done_list, done_live, done_live_rows, done_make, done_ring}
+use Rattle.bt878_contract.proofs.Consequences.{done_run, done_sound}
 use Rattle.bt878_contract.proofs.Consequences.{done_trace, done_verify, done_version, ends_at_fault, in_order, names_kept, others_untouched}
 use Rattle.bt878_contract.proofs.Consequences.{read_fault_comes}
 use Rattle.bt878_contract.proofs.Consequences.{first_missing_must, missing_must, read_fault_must, refused_only_says, short_ends}
@@ -108,6 +109,12 @@ returns-clause-live_in_time g c =
     done_live LiveRunSignalsInTime (λ chain fill steps kept. kept.in_time) (task_of c.args.words.now) c.answer_words.result
     (see c.args.desk.now) (see c.answer_words.new.desk)
     c.answer_words.ensures
+
+pub returns-clause-live_whole_rows : goal.returns-clause-live_whole_rows
+returns-clause-live_whole_rows g c =
+    let see = g.D.Desk.seen in
+    done_live_rows (task_of c.args.words.now) c.answer_words.result (see c.args.desk.now)
+    (see c.answer_words.new.desk) c.answer_words.ensures
 
 pub returns-clause-live_fragments : goal.returns-clause-live_fragments
 returns-clause-live_fragments g c =
