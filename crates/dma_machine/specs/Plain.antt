@@ -1,6 +1,6 @@
 -- Plain entries that are pushed to an empty queue, with turns behind each: how many may be, and how they are taken.
-use Rattle.std.specs.Prelude.{◌≡◌, ◌⊎◌, ℕ, ◌+◌, ◌-◌, ◌/◌, ◌^◌, ◌<◌, min, Bool, not, ◌&&◌, ◌==◌, true, false, is_none, List, [], ◌∷◌, replicate}
-use Rattle.std.specs.Prelude.{if◌then◌else◌}
+use Rattle.std.specs.Prelude.{◌≡◌, ◌⊎◌, ℕ, ◌+◌, ◌-◌, ◌/◌, ◌^◌, ◌<◌, min, Bool, not, ◌&&◌, ◌==◌, true, false, is_none, List, [], ◌∷◌}
+use Rattle.std.specs.Prelude.{if◌then◌else◌, replicate}
 use Rattle.risc_word.specs.declared.Instr.{Instr}
 use Rattle.risc_word.specs.Parts.{instr_off}
 use Rattle.fifo_model.specs.declared.Queue.{Queue}

@@ -63,10 +63,12 @@ returns-clause-state g c = λ entries given.
     (ap (λ n. length c.args.dwords.now - length c.args.dwords.now % (4 * n)) c.from.ensures) in
     let settles : state_of g.R.Ram.memory c.push_all.new.self ≡ settled (nat_lt 0 whole) c.args.q m.instr m.demands p.first p.later before =
     elim c.if-taken.branch [
-      | then-taken w ↦ made_taken c.args.q m.instr m.demands before whole c.args.turns (nat_lt 0 whole) c.args.dwords.now entries p refl takes given
+      | then-taken w ↦ made_taken c.args.q m.instr m.demands before whole c.args.turns (nat_lt 0 whole) c.args.dwords.now entries p refl
+          takes given
           (let some_bytes = w.if-taken.true in grind (arith, some_bytes)) _ _ (ap (state_of g.R.Ram.memory) w.self-is ∙ w.put_run.ensures)
           (λ es bytes fits. c.push_all.ensures es (bytes ∙ sym rest) fits)
-      | else-taken w ↦ made_waiting c.args.q m.instr m.demands before whole c.args.turns (nat_lt 0 whole) c.args.dwords.now entries p refl takes
+      | else-taken w ↦ made_waiting c.args.q m.instr m.demands before whole c.args.turns (nat_lt 0 whole) c.args.dwords.now entries p refl
+          takes
           given (let no_bytes = w.if-taken.false in grind (arith, no_bytes)) _
           (λ es bytes fits. c.push_all.ensures es (bytes ∙ sym rest) fits
           ∙ ap (λ s. all_pushed c.args.q es (state_of g.R.Ram.memory s)) w.self-is)
@@ -95,10 +97,12 @@ returns-clause-others g c = λ program entries given.
     (ap (λ n. length c.args.dwords.now - length c.args.dwords.now % (4 * n)) c.from.ensures) in
     let settles : state_of g.R.Ram.memory c.push_all.new.self ≡ settled (nat_lt 0 whole) c.args.q m.instr m.demands p.first p.later before =
     elim c.if-taken.branch [
-      | then-taken w ↦ made_taken c.args.q m.instr m.demands before whole c.args.turns (nat_lt 0 whole) c.args.dwords.now entries p refl takes given
+      | then-taken w ↦ made_taken c.args.q m.instr m.demands before whole c.args.turns (nat_lt 0 whole) c.args.dwords.now entries p refl
+          takes given
           (let some_bytes = w.if-taken.true in grind (arith, some_bytes)) _ _ (ap (state_of g.R.Ram.memory) w.self-is ∙ w.put_run.ensures)
           (λ es bytes fits. c.push_all.ensures es (bytes ∙ sym rest) fits)
-      | else-taken w ↦ made_waiting c.args.q m.instr m.demands before whole c.args.turns (nat_lt 0 whole) c.args.dwords.now entries p refl takes
+      | else-taken w ↦ made_waiting c.args.q m.instr m.demands before whole c.args.turns (nat_lt 0 whole) c.args.dwords.now entries p refl
+          takes
           given (let no_bytes = w.if-taken.false in grind (arith, no_bytes)) _
           (λ es bytes fits. c.push_all.ensures es (bytes ∙ sym rest) fits
           ∙ ap (λ s. all_pushed c.args.q es (state_of g.R.Ram.memory s)) w.self-is)
@@ -109,7 +113,8 @@ returns-clause-others g c = λ program entries given.
     ap (with_program program)
     (made_counted c.args.q m.instr m.demands before whole c.args.turns (nat_lt 0 whole) c.args.dwords.now entries p refl takes given _ _
     settles c.count.ensures.state)
-    ∙ sym (plain_run-program c.args.q m.instr m.demands before whole c.args.turns (nat_lt 0 whole) c.args.dwords.now entries p refl takes given
+    ∙ sym (plain_run-program c.args.q m.instr m.demands before whole c.args.turns (nat_lt 0 whole) c.args.dwords.now entries p refl takes
+    given
     program few)
 
 pub returns-clause-taken : goal.returns-clause-taken
@@ -128,10 +133,12 @@ returns-clause-taken g c = λ entries given.
     (ap (λ n. length c.args.dwords.now - length c.args.dwords.now % (4 * n)) c.from.ensures) in
     let settles : state_of g.R.Ram.memory c.push_all.new.self ≡ settled (nat_lt 0 whole) c.args.q m.instr m.demands p.first p.later before =
     elim c.if-taken.branch [
-      | then-taken w ↦ made_taken c.args.q m.instr m.demands before whole c.args.turns (nat_lt 0 whole) c.args.dwords.now entries p refl takes given
+      | then-taken w ↦ made_taken c.args.q m.instr m.demands before whole c.args.turns (nat_lt 0 whole) c.args.dwords.now entries p refl
+          takes given
           (let some_bytes = w.if-taken.true in grind (arith, some_bytes)) _ _ (ap (state_of g.R.Ram.memory) w.self-is ∙ w.put_run.ensures)
           (λ es bytes fits. c.push_all.ensures es (bytes ∙ sym rest) fits)
-      | else-taken w ↦ made_waiting c.args.q m.instr m.demands before whole c.args.turns (nat_lt 0 whole) c.args.dwords.now entries p refl takes
+      | else-taken w ↦ made_waiting c.args.q m.instr m.demands before whole c.args.turns (nat_lt 0 whole) c.args.dwords.now entries p refl
+          takes
           given (let no_bytes = w.if-taken.false in grind (arith, no_bytes)) _
           (λ es bytes fits. c.push_all.ensures es (bytes ∙ sym rest) fits
           ∙ ap (λ s. all_pushed c.args.q es (state_of g.R.Ram.memory s)) w.self-is)
