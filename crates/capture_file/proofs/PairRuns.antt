@@ -39,7 +39,8 @@ pair_found queue before (t ∷ s ∷ []) dword turns long tag status turn first 
 pair_found queue before (t ∷ s ∷ a ∷ []) dword turns long tag status turn first second some few fits = absurd (omega (arith, long))
 pair_found queue before (t ∷ s ∷ a ∷ b ∷ []) dword turns long tag status turn first second some few fits = absurd (omega (arith, long))
 pair_found queue before (t ∷ s ∷ a ∷ b ∷ c ∷ []) dword turns long tag status turn first second some few fits = absurd (omega (arith, long))
-pair_found queue before (t ∷ s ∷ a ∷ b ∷ c ∷ d ∷ []) dword turns long tag status turn first second some few fits = absurd (omega (arith, long))
+pair_found queue before (t ∷ s ∷ a ∷ b ∷ c ∷ d ∷ []) dword turns long tag status turn first second some few fits =
+    absurd (omega (arith, long))
 pair_found queue before (t ∷ s ∷ a ∷ b ∷ c ∷ d ∷ u ∷ rest) dword turns long tag status turn first second some few fits =
     let all : nat_le (before + turns) most_turns ≡ true = grind (arith, few) in
     record {

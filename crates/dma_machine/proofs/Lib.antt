@@ -14,4 +14,7 @@ pub mod Noting
 pub mod Retiring
 pub mod StillSeen
 pub mod WholeBursts
+pub mod PlainTakes
 pub mod PlainRuns
+pub mod PlainRoom
+pub mod PlainPushes

@@ -23,8 +23,10 @@ use Rattle.machine_model.specs.declared.Skipping.{Skipping}
 use Rattle.machine_model.specs.declared.Skipping.TheVariants.{Nothing, ToEol, ToSync}
 use Rattle.machine_model.specs.Paths.{fetch}
 use Rattle.machine_model.specs.States.{State}
-use Rattle.machine_model.specs.Steps.{Step, Push, Control, Turn, Host, host, push_control_if, push_if, step, with_fbus_if, with_fifo, with_risc}
-use Rattle.machine_model.specs.Turns.{begun_with, code_seen, data_fetched, ended, fetched, instr_fetched, judged, jumped, met, stray_seen, took}
+use Rattle.machine_model.specs.Steps.{Step, Push, Control, Turn, Host, host, push_control_if, push_if, step, with_fbus_if, with_fifo}
+use Rattle.machine_model.specs.Steps.{with_risc}
+use Rattle.machine_model.specs.Turns.{begun_with, code_seen, data_fetched, ended, fetched, instr_fetched, judged, jumped, met, stray_seen}
+use Rattle.machine_model.specs.Turns.{took}
 use Rattle.machine_model.specs.Turns.{with_fdsr_unless}
 use Rattle.machine_model.proofs.Turning.{IsKept, turn-kept}
 use Rattle.dma_machine.specs.Facts.{HaveRoom}

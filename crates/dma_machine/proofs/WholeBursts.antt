@@ -24,7 +24,8 @@ use Rattle.machine_model.specs.PlainEntries.{dwords_of, plain_entry}
 use Rattle.machine_model.specs.Seen.{Application, address_before, application, application_in, applications, seen, seen_alone, seen_burst}
 use Rattle.machine_model.specs.Seen.{seen_if, seen_in, seen_running, seen_served, served_application}
 use Rattle.machine_model.specs.States.{State}
-use Rattle.machine_model.specs.Turns.{Store, apply, apply_in, burst, burst_of, demand_less, demand_on, ended, is_served, judged, lowest_served}
+use Rattle.machine_model.specs.Turns.{Store, apply, apply_in, burst, burst_of, demand_less, demand_on, ended, is_served, judged}
+use Rattle.machine_model.specs.Turns.{lowest_served}
 use Rattle.machine_model.specs.Turns.{ran, served, stored_all, stores_at, stores_of, took, turn_if, verdict_at, with_demand, worked}
 use Rattle.dma_machine.specs.Counts.{acted}
 use Rattle.dma_machine.specs.FallThrough.{moved_whole, none_before, put_down}
@@ -127,7 +128,8 @@ module _ (q : Queue) (instr : Instr) (ds : Demands) (m : State) (off : instr_off
       let next : List Store = stores_at (demand_on q less).address (instr_off instr) 0 later in
       let whole : List Store = stores_at address (instr_off instr) 0 (first ++ later) in
       let now : (demand_on q less).address ≡ option_map (λ at. at + length first) address =
-      ap (λ (d : Demand). d.address) (asked_now q (demand_less early (demand_on q ds)) ds) ∙ ap (λ n. option_map (λ at. at + n) address) is in
+      ap (λ (d : Demand). d.address) (asked_now q (demand_less early (demand_on q ds)) ds)
+      ∙ ap (λ n. option_map (λ at. at + n) address) is in
       let memory : stored_all (stored_all m.memory before) next ≡ stored_all m.memory whole =
       put_all (stored_all m.memory before) (instr_off instr) (demand_on q less).address later off
       ∙ ap (λ at. put_at (stored_all m.memory before) at later) now
@@ -191,7 +193,8 @@ module _ (q : Queue) (entry : ℕ × ℕ) (behind : List (ℕ × ℕ)) (m : Stat
 
   verdict : verdict_on (kind_of 0) (demand_on q ds).needs_sol (queue_state q now.queues).taken rest ≡ Take 4
   verdict =
-      ap (λ (at : QueueState). verdict_on (kind_of 0) (demand_on q ds).needs_sol at.taken rest) (is_held q (entry ∷ behind) m) ∙ whole.verdict
+      ap (λ (at : QueueState). verdict_on (kind_of 0) (demand_on q ds).needs_sol at.taken rest) (is_held q (entry ∷ behind) m)
+      ∙ whole.verdict
 
   applied : apply q now ≡ Some (took q 4 instr ds (plain_entry entry.0) now)
   applied =
@@ -238,7 +241,8 @@ module _ (q : Queue) (entry : ℕ × ℕ) (behind : List (ℕ × ℕ)) (m : Stat
       ∙ ap (λ none. if none then [] else whole_take ∷ []) (asks_some rest asked)
 
   takes_it : takes_whole (kind_of 0) (demand_on q ds).needs_sol whole_take.taken rest ≡ true
-  takes_it = ap (λ (at : QueueState). takes_whole (kind_of 0) (demand_on q ds).needs_sol at.taken rest) (is_held q (entry ∷ behind) m) ∙ takes
+  takes_it = ap (λ (at : QueueState). takes_whole (kind_of 0) (demand_on q ds).needs_sol at.taken rest) (is_held q (entry ∷ behind) m)
+      ∙ takes
 
   pub one_noted : (s : Seen) → all_noted q (application q now) s ≡ record s { took = true }
   one_noted s = ap (λ made. all_noted q made s) one_application ∙ sym (whole_noted q whole_take s takes_it)
@@ -265,7 +269,8 @@ bursts q entry (next ∷ entries) m instr ds running sol off asked =
     let all : 4 + count * 4 ≡ suc count * 4 = omega arith in
     ap (λ state. elim state as (λ _. State) [ None ↦ holding q (entry ∷ next ∷ entries) m | Some after ↦ burst count q after ])
     (one_applied q entry (next ∷ entries) m instr ds running sol (omega (arith, asked)))
-    ∙ bursts q next entries (put_down q 4 instr ds 0 (lane_bytes entry.0) m) instr less refl (sol_less q ds) off (omega (arith, left, asked))
+    ∙ bursts q next entries (put_down q 4 instr ds 0 (lane_bytes entry.0) m) instr less refl (sol_less q ds) off
+    (omega (arith, left, asked))
     ∙ ap (holding q []) (put_both q instr ds m off (lane_bytes entry.0) (dwords_of (next ∷ entries)) 4 (count * 4) refl)
     ∙ ap (λ n. holding q [] (put_down q n instr ds 0 (dwords_of (entry ∷ next ∷ entries)) m)) all
 
@@ -311,7 +316,8 @@ module _ (q : Queue) (entry : ℕ × ℕ) (entries : List (ℕ × ℕ)) (m : Sta
   asks = asks_some (demand_on q ds).rest (omega (arith, asked))
 
   enough : nat_le m.trigger (length (entries_of (entry ∷ entries))) ≡ true
-  enough = let same = length_entries (entry ∷ entries) in let le : m.trigger ≤ length (entries_of (entry ∷ entries)) = omega (arith, same, many) in grind (arith, le)
+  enough = let same = length_entries (entry ∷ entries) in let le : m.trigger ≤ length (entries_of (entry ∷ entries)) =
+      omega (arith, same, many) in grind (arith, le)
 
   ready : is_served q ds full ≡ true
   ready =

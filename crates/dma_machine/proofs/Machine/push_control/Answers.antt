@@ -4,8 +4,10 @@ use Rattle.dma_machine.proofs.Stills.{not_still}
 use Rattle.dma_machine.proofs.Machine.push_control.Goals as goal
 
 pub invariant_of-self : goal.invariant_of-self
-invariant_of-self g c =
-    (IsMachine-step (Control c.args.c) _ _ c.push_control.ensures.state tt tt c.self.invariant.0, not_still _ _ c.push_control.ensures.still)
+invariant_of-self g c = (
+  IsMachine-step (Control c.args.c) _ _ c.push_control.ensures.state tt tt c.self.invariant.0,
+  not_still _ _ c.push_control.ensures.still,
+)
 
 pub returns-clause-facts : goal.returns-clause-facts
 returns-clause-facts g c = IsMachine-step (Control c.args.c) _ _ c.push_control.ensures.state tt tt c.self.invariant.0

@@ -1,7 +1,7 @@
 use Rattle.std.proofs.Common.{sym, subst}
 use Rattle.dma_machine.specs.Facts.{IsMachine}
 use Rattle.dma_machine.proofs.Machines.{IsMachine-CanWork}
-use Rattle.dma_machine.proofs.PlainRuns.{plain_leave}
+use Rattle.dma_machine.proofs.PlainRoom.{plain_leave}
 use Rattle.dma_machine.proofs.Machine.push_plain.Goals as goal
 
 pub push_plain-requires-clause-can : goal.push_plain-requires-clause-can

@@ -15,8 +15,10 @@ invariant_of-self g c =
     let made = subst IsProgram c.program.ensures.value c.base-base.ensures.made in
     let can = subst (CanGoOn c.args.other.now) (sym c.self.view_is) c.requires in
     subst (λ program. IsMachine (with_program program here) × StillIf c.self.inside.engine.still (with_program program here))
-    (sym c.swap.ensures.x_after)
-    (IsMachine-program c.args.other.now here made c.program.ensures.sound can c.self.invariant.0.room, StillIf-program c.args.other.now _ here c.self.invariant.1)
+    (sym c.swap.ensures.x_after) (
+      IsMachine-program c.args.other.now here made c.program.ensures.sound can c.self.invariant.0.room,
+      StillIf-program c.args.other.now _ here c.self.invariant.1,
+    )
 
 pub returns-clause-facts : goal.returns-clause-facts
 returns-clause-facts g c = (invariant_of-self g c).0

@@ -1,7 +1,7 @@
 use Rattle.std.proofs.Common.{ap, ◌∙◌, arith}
 use Rattle.machine_model.specs.Steps.{push}
 use Rattle.dma_machine.specs.Views.{state_of}
-use Rattle.dma_machine.proofs.PlainRuns.{next_left, none_left}
+use Rattle.dma_machine.proofs.PlainPushes.{next_left, none_left}
 use Rattle.dma_machine.proofs.engine.Engine.push_all.Goals as goal
 
 pub loop-at-preserved : goal.loop-at-preserved

@@ -5,8 +5,9 @@ use Rattle.machine_model.specs.Steps.{with_program}
 use Rattle.dma_machine.specs.Needs.{CanWork}
 use Rattle.dma_machine.specs.Plain.{all_pushed, plain_room}
 use Rattle.dma_machine.specs.Views.{job_of, state_of}
-use Rattle.dma_machine.proofs.PlainRuns.{made_counted, made_few, made_taken, made_waiting, parted, plain_run}
-use Rattle.dma_machine.proofs.PlainRuns.{plain_run-program, plain_taken, room_running, settled, takes_all, takes_room}
+use Rattle.dma_machine.proofs.PlainPushes.{made_counted, made_few, made_taken, made_waiting, parted, plain_run}
+use Rattle.dma_machine.proofs.PlainPushes.{plain_run-program, plain_taken, settled}
+use Rattle.dma_machine.proofs.PlainRoom.{room_running, takes_all, takes_room}
 use Rattle.dma_machine.proofs.engine.Engine.push_plain.Goals as goal
 use Rattle.dma_machine.proofs.engine.Engine.push_plain.Goals.{then-taken, else-taken}
 
@@ -34,7 +35,8 @@ put_run-requires-clause-asked g c =
     let running = room_running m.phase m.wait m.instr m.demands c.args.q (plain_room c.args.q before) before refl some (omega arith) in
     let rest =
     (takes_room c.args.q (plain_room c.args.q before) before m.instr m.demands
-    (ap (λ phase. job_of phase m.wait m.instr m.demands) running) c.requires.orderly m.fit.some c.requires.queues some (omega arith)).rest in
+    (ap (λ phase. job_of phase m.wait m.instr m.demands) running) c.requires.orderly m.fit.some c.requires.queues some
+    (omega arith)).rest in
     let many = length-take (length c.args.dwords.now - length c.args.dwords.now % (4 * c.from.result)) c.args.dwords.now in
     omega (arith, rest, c.requires.room, many)
 

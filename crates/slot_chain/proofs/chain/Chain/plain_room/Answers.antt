@@ -1,7 +1,7 @@
 use Rattle.std.proofs.Common.{sym, ap, ◌∙◌}
 use Rattle.chain_model.specs.Chains.{patched}
 use Rattle.dma_machine.specs.Plain.{plain_room}
-use Rattle.dma_machine.proofs.PlainRuns.{plain_room-program}
+use Rattle.dma_machine.proofs.PlainRoom.{plain_room-program}
 use Rattle.slot_chain.specs.States.{ChainState, chain_of}
 use Rattle.slot_chain.proofs.chain.Chain.plain_room.Goals as goal
 

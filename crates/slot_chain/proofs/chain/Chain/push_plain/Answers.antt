@@ -1,7 +1,7 @@
 use Rattle.std.proofs.Common.{◌≤◌, ◌*◌, length, ap, subst, sym, ◌∙◌}
 use Rattle.chain_model.specs.Chains.{patched}
 use Rattle.dma_machine.specs.Plain.{plain_room}
-use Rattle.dma_machine.proofs.PlainRuns.{plain_room-program}
+use Rattle.dma_machine.proofs.PlainRoom.{plain_room-program}
 use Rattle.machine_model.specs.PlainEntries.{plain_steps}
 use Rattle.slot_chain.specs.States.{ChainState, chain_of, stepped}
 use Rattle.slot_chain.proofs.StillTurns.{same_patching, same_wheel, stepped_state}
