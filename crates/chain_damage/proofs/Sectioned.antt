@@ -89,7 +89,8 @@ never_idle false pc low high = refl
 
 module _ (chain : Chain) (part : ℕ) (d : Desc) (field : Parity) (fill : ℕ) (steps : List LiveStep) (j : ℕ) (is : IsChain chain)
     (sound : IsSoundChain chain) (made : All (IsLiveStep chain) steps) (f : IsPartField chain part d field)
-    (is_turn : step_at steps j ≡ Plain Turn) (opened : is_opening_at (begin_in chain part d field) (machine_of chain fill steps j) Turn ≡ true) where
+    (is_turn : step_at steps j ≡ Plain Turn)
+    (opened : is_opening_at (begin_in chain part d field) (machine_of chain fill steps j) Turn ≡ true) where
   abbrev live : ℕ → Live
   live i = live_of chain fill steps i
 
@@ -312,7 +313,8 @@ module _ (chain : Chain) (part : ℕ) (d : Desc) (field : Parity) (fill : ℕ) (
       by_order : (j < i) ⊎ (i ≤ j) → with_program (at j).machine.program (at i).machine ≡ run (at j).machine (steps_between steps j i)
       by_order (inl less) =
           let there = there_at i less to in
-          ap (λ (p : RiscProgram). with_program p (at i).machine) (program_is chain part d field fill steps j is sound made f s.turn s.opened)
+          ap (λ (p : RiscProgram). with_program p (at i).machine)
+          (program_is chain part d field fill steps j is sound made f s.turn s.opened)
           ∙ there.same ∙ there.inside.there
       by_order (inr more) =
           let same : i ≡ j = omega arith in

@@ -50,7 +50,8 @@ use Rattle.chain_law.proofs.InTime.{none_from, signalling_turn, signals_first, s
 use Rattle.chain_damage.specs.Rows.{IsPartField, begin_in, machine_of}
 use Rattle.chain_damage.specs.Behind.{IsSignalBehind}
 use Rattle.chain_damage.proofs.Positions.{IsIt, Out, PartField, begin_at, behind_slots, closing_there, end_at, is_it_or}
-use Rattle.chain_damage.proofs.Positions.{body_there, itself, never_closing, next_at, opening_itself, opening_there, to_next, to_part, to_slot}
+use Rattle.chain_damage.proofs.Positions.{body_there, itself, never_closing, next_at, opening_itself, opening_there, to_next, to_part}
+use Rattle.chain_damage.proofs.Positions.{to_slot}
 use Rattle.chain_damage.proofs.Sectioned.{There, next_live, starts, there_next}
 
 -- ---- where a turn goes
