@@ -44,7 +44,8 @@ have_both [] later have = (tt, have)
 have_both (entry ∷ first) later have = let rest = have_both first later have.1 in ((have.0, rest.0), rest.1)
 
 -- behind none that wait
-pub behind_none : (q : Queue) (count : ℕ) (instr : Instr) (ds : Demands) (m : State) → Takes q count instr ds m → Takes q (0 + count) instr ds m
+pub behind_none : (q : Queue) (count : ℕ) (instr : Instr) (ds : Demands) (m : State) → Takes q count instr ds m →
+    Takes q (0 + count) instr ds m
 behind_none q count instr ds m h = let e : count ≡ 0 + count = omega arith in subst (λ n. Takes q n instr ds m) e h
 
 -- fewer than make the queue ready wait in it
