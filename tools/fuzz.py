@@ -6,7 +6,8 @@
 Programs of one span and of several: each is listed, assembled again, verified, and run on two streams where it is
 accepted (machine.py). Files and listings of it that were changed in a place: the first fault of a file
 (program_faults.py), and whether a text is a listing. Descriptions: the stream that `make` draws (cases.py), and the
-memory after its capture (paint.py) and the report (machine.py). Programs drawn from a compiled one beside its own and
+memory after its capture (paint.py) and the report (machine.py); and both (machine.py) after a stream of the same entries
+in which the host sets trigger points and few turns come after each push. Programs drawn from a compiled one beside its own and
 another description (draw_checks.py): what `check` says of them (check_model.py), and what memory holds once a field that
 it found to be shown has arrived at that opening (paint.py). A line is printed for each difference, and last how many
 programs were accepted, of how many pairs a program was judged by a description and how many showed it, and how many
@@ -104,6 +105,21 @@ def drawn_stream(draw, form):
     return stream.end()
 
 
+def hurried(stream, draw):
+    """The stream's pushes: the host sets trigger points between them, and few turns come after each."""
+    sizes, hurry, place = {1: 6, 2: 6, 3: 6, 4: 2, 5: 5}, Stream(turns=0, form=b"BFS2"), 4
+    few, often = draw.choice([[1], [1, 1, 2], [0, 1, 3], [2, 16]]), draw.choice([0, 0.01, 0.1])
+    while stream[place]:
+        tag, record = stream[place], stream[place : place + sizes[stream[place]]]
+        place += len(record)
+        if tag != 5:
+            hurry.data += record
+            hurry.turns(draw.choice([6, 40]) if tag == 4 else draw.choice(few))
+        if draw.random() < often:
+            hurry.trigger(draw.randrange(4))
+    return hurry.turns(200).end()
+
+
 def drawn_keys(draw):
     """The keys of a description that has no fault, but for the odd one."""
     form = draw.choice(sorted(FORMATS))
@@ -112,6 +128,7 @@ def drawn_keys(draw):
     fields = draw.choice(["top", "bottom", "both"])
     both = fields == "both"
     width, height = 8 * draw.randrange(across, across + 4), draw.randrange(1, 6) * (2 if both else 1)
+    width *= draw.choice([1, 1, 1, 6])
     keys = {"format": f'"{form}"', "width": max(width, 24), "height": height, "fields": f'"{fields}"'}
     count = 2 if both else 1
     keys["chroma_first"] = [draw.randrange(down) for _ in range(count)]
@@ -122,7 +139,7 @@ def drawn_keys(draw):
     keys["vbi_skip"] = [draw.randrange(4) for _ in range(count)]
     keys["clip"] = [[draw.randrange(30), draw.randrange(6), draw.randrange(9), draw.randrange(4)] for _ in range(2)]
     keys["chunks"], at = [], 0x20000
-    for length in (64, 4 * draw.randrange(1, 40), 4096):
+    for length in (64, 4 * draw.randrange(1, 40), 16384):
         keys["chunks"].append([at, length])
         at += length + draw.choice([0, 4, 4096])
     needed = ("format", "width", "height", "fields", "chunks", "vbi_bytes")
@@ -179,7 +196,16 @@ def compare_changed(tool, data, text, draw):
     return differences
 
 
-def compare_description(tool, text):
+def compare_hurried(tool, compiled, stream):
+    """What a description's program makes of a stream that isn't its own."""
+    machine = Machine(compiled)
+    machine.play(stream)
+    tool.write("stream", stream)
+    report = tool.says("capture", "description", "stream", "program", "image")
+    return report == machine.report(), tool.read("image") == image(machine.memory)
+
+
+def compare_description(tool, text, draw):
     """A frame is made and captured."""
     tool.write("description", text.encode())
     status, said = tool.run("compile", "description", "compiled")
@@ -196,7 +222,8 @@ def compare_description(tool, text):
     answers = tool.read("stream") == stream, report == machine.report(), tool.read("program") == tool.read("compiled")
     shown = image(paint(description, picture, filled(description)))
     answers += tool.read("image") == shown, image(machine.memory) == shown
-    return [] if all(answers) else [f"stream, report, program, image, machine.py {answers} of {text!r}"]
+    answers += compare_hurried(tool, Program(*read_program(tool.read("compiled"))), hurried(stream, draw))
+    return [] if all(answers) else [f"stream, report, program, image, machine.py, hurried {answers} of {text!r}"]
 
 
 def compare_shown(tool, program_file, description, field, begin):
@@ -259,7 +286,7 @@ def main():
         for number in range(given.count):
             draw = random.Random(given.seed + number)
             good, differences = compare(tool, drawn_program(draw), draw)
-            differences += compare_description(tool, text_of(drawn_keys(draw))) if number % 4 == 0 else []
+            differences += compare_description(tool, text_of(drawn_keys(draw)), draw) if number % 4 == 0 else []
             checked = compare_checks(tool, draw)
             differences += checked[2]
             judged, showed = judged + checked[0], showed + checked[1]
