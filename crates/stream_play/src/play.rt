@@ -24,6 +24,9 @@ const LONGEST_STREAM: u64 = 4_294_967_295;
 /// The most pairs of records that are handed on at once.
 const MOST_PAIRS: usize = 512;
 
+/// The bytes of a data push.
+const PUSH: usize = 6;
+
 /// Hands a record to the player.
 #[inline]
 fn hand<P: Player>(player: &mut P, step: Step)
@@ -96,12 +99,12 @@ fn hand_push<P: Player>(
 }
 
 /// Whether two pairs of the queue of the push at the front of a piece may follow behind so many bytes. One alone, as in a planar
-/// line, isn't worth the question.
+/// line, isn't worth the question. Behind a push with no turns the entry waits in the queue, so a run can't begin there.
 #[inline(always)]
 fn may_go_on(piece: &[u8], used: usize) -> bool
     requires { used ≤ length piece.now }
 {
-    piece.get(used) == piece.first() && piece.get(used + PAIR) == piece.first()
+    used > PUSH && piece.get(used) == piece.first() && piece.get(used + PAIR) == piece.first()
 }
 
 /// Hands the pairs of records of a queue that are taken at once, behind so many bytes of a piece, to the player, and answers how many
@@ -142,7 +145,7 @@ fn hand_plain<P: Player>(
     ensures other { IfNone result (IsOther (front_record reader.old piece.now)) }
 {
     if let Some((queue, entry)) = reader.take_push(piece) {
-        let used = 6 + hand_push(player, reader, queue, entry, &piece[6..]);
+        let used = PUSH + hand_push(player, reader, queue, entry, &piece[PUSH..]);
         return Some(used + hand_behind(player, reader, queue, piece, used, dwords));
     }
     if let Some(count) = reader.take_turns(piece) {
