@@ -1,7 +1,7 @@
 //! Memory in one raw block.
-ghost use Rattle.std.specs.Prelude.{◌≡◌, ◌^◌, ◌<◌, ◌≤◌, ℕ, List, None, IsTrue, IfOk, IfSome};
-ghost use Rattle.page_table.specs.Grants.{Chunk, granted, total, AreGrants};
-ghost use Rattle.page_table.specs.Blocks.{Block, filled};
+ghost use Rattle.std.specs.Prelude.{◌≡◌, ◌+◌, ◌^◌, ◌<◌, ◌≤◌, ℕ, List, None, IsTrue, IfOk, IfSome, false, length, true};
+ghost use Rattle.page_table.specs.Grants.{Chunk, first_ungranted, granted, total, AreGrants};
+ghost use Rattle.page_table.specs.Blocks.{Block, chunks_of, filled, stored_run};
 ghost use Rattle.page_ram.specs.Extents.{extent_chunk, extent_chunks, AreLaid, StandsAt, StandsRun};
 
 use crate::Ram;
@@ -131,6 +131,50 @@ impl PageRam {
             block,
         })
     }
+
+    // Notes which chunk has an address, as the one that is looked at first.
+    fn note_near(&mut self, addr: u32)
+        requires { IsTrue (granted (chunks_of self.old) addr) }
+        ensures { self.new ≡ self.old }
+    {
+        let guess = guess_of(addr);
+        let (place, _) = locate(&self.extents, usize::from(self.near[guess]), addr);
+        self.near[guess] = place as u16;
+    }
+
+    // Writes bytes from an address on, where the chunk that is looked at first has them all. Whether it has.
+    #[inline(always)]
+    fn store_near(&mut self, addr: u32, bytes: &[u8]) -> bool
+        requires { addr + length bytes.now ≤ 2 ^ 32 }
+        ensures stored { result ≡ true → self.new ≡ stored_run self.old addr bytes.now }
+        ensures kept { result ≡ false → self.new ≡ self.old }
+    {
+        let near = usize::from(self.near[guess_of(addr)]);
+        match run_in(&self.extents, near, addr, bytes.len()) {
+            Some(index) => {
+                self.block.set_run(index, bytes);
+                true
+            }
+            None => false,
+        }
+    }
+
+    // Writes bytes from an address on that the chunk that is looked at first has not, or not all.
+    #[cold]
+    #[inline(never)]
+    fn store_apart(&mut self, addr: u32, bytes: &[u8])
+        requires within { addr + length bytes.now ≤ 2 ^ 32 }
+        requires granted { first_ungranted (chunks_of self.old) addr (length bytes.now) ≡ None }
+        ensures { self.new ≡ stored_run self.old addr bytes.now }
+    {
+        if bytes.is_empty() {
+            return;
+        }
+        self.note_near(addr);
+        if !self.store_near(addr, bytes) {
+            store_each(self, addr, bytes);
+        }
+    }
 }
 
 impl ByteStore for PageRam {
@@ -154,10 +198,8 @@ impl Ram for PageRam {
 
     #[inline(always)]
     fn store_run(&mut self, addr: u32, bytes: &[u8]) {
-        let near = usize::from(self.near[guess_of(addr)]);
-        match run_in(&self.extents, near, addr, bytes.len()) {
-            Some(index) => self.block.set_run(index, bytes),
-            None => store_each(self, addr, bytes),
+        if !self.store_near(addr, bytes) {
+            self.store_apart(addr, bytes);
         }
     }
 

@@ -4,7 +4,7 @@ use Rattle.page_table.specs.Blocks.{stored_run}
 use Rattle.page_ram.specs.Extents.{extent_chunks, laid, AreCut, StandsRun}
 use Rattle.page_ram.proofs.Extents.{cut_grants}
 use Rattle.page_ram.proofs.Runs.{run_written}
-use Rattle.page_ram.proofs.raw_ram.PageRamRam.store_run.Goals as goal
+use Rattle.page_ram.proofs.raw_ram.PageRam.store_near.Goals as goal
 
 pub run_in-requires-clause-grants : goal.run_in-requires-clause-grants
 run_in-requires-clause-grants c =
@@ -33,8 +33,8 @@ invariant_of-self c =
     (λ k. (c.type_inv.bytes k).fits) c.self.invariant stands in
     subst (λ bytes. AreCut bytes c.self.inside.extents.items) (sym c.set_run.ensures) written.cut
 
-pub returns-in-Some : goal.returns-in-Some
-returns-in-Some c =
+pub returns-in-Some-clause-stored : goal.returns-in-Some-clause-stored
+returns-in-Some-clause-stored c _ =
     let stands =
     subst (λ es. StandsRun es c.from-near.result c.args.addr (length c.args.bytes.now) c.in-Some.index) c.deref.ensures.value
     c.in-Some.ensures.found in
