@@ -1,5 +1,5 @@
 -- Bytes that are no pair of records.
-use Rattle.std.proofs.Common.{◌≡◌, ℕ, suc, ◌+◌, ◌-◌, ◌*◌, ◌<◌, ◌≤◌, ◌⊎◌, inl, inr, Bool, true, false, List, [], ◌∷◌, length, drop, get_or}
+use Rattle.std.proofs.Common.{◌≡◌, ℕ, ◌+◌, ◌*◌, ◌<◌, ◌≤◌, inl, inr, Bool, true, false, List, [], ◌∷◌, length, drop, get_or}
 use Rattle.std.proofs.Common.{Option, Some, None, refl, sym, ap, subst, arith, if◌then◌else◌, length-drop}
 use Rattle.std.specs.Prelude.{nat_lt, nat_le, min, ◌/◌, ◌==◌}
 use Rattle.std.proofs.lemmas.Bool.{eqb-true, ltb-false, ltb-true}

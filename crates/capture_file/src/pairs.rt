@@ -2,15 +2,12 @@
 
 ghost use Rattle.capture_file.specs.Pairs.{AreAll, AreCopied, IsPair, NoPair, push_tag};
 ghost use Rattle.capture_file.specs.Streams.{most_turns};
-ghost use Rattle.std.specs.Prelude.{◌≡◌, ◌+◌, ◌-◌, ◌*◌, ◌≤◌, IfNone, IfSome, List, length, ℕ};
+ghost use Rattle.std.specs.Prelude.{◌≡◌, ◌+◌, ◌-◌, ◌*◌, ◌≤◌, IfNone, IfSome, IsFalse, IsTrue, List, length, slice_index, ℕ};
 
 use super::tags;
 use super::writing::spell_one;
 use byteorder::{ByteOrder, LittleEndian};
 use fifo_model::Queue;
-
-/// The status of four valid pixel bytes within a line.
-const PIXELS_VALID: u8 = 0;
 
 /// The bytes of a pair of records: a data push, and the turns behind it.
 pub const PAIR: usize = 11;
@@ -26,19 +23,26 @@ fn push_tag(queue: Queue) -> u8
     }
 }
 
+/// Whether some bytes begin with a push to the queue and the status PixelsValid, which is 0. Both are read as one number.
+#[inline(always)]
+fn is_valid_push(queue: Queue, bytes: &[u8]) -> bool
+    requires { 2 ≤ length bytes.now }
+    ensures yes { IsTrue result → (slice_index bytes.now 0 ≡ push_tag queue) × (slice_index bytes.now 1 ≡ 0) }
+    ensures no { IsFalse result → slice_index bytes.now 0 ≡ push_tag queue → slice_index bytes.now 1 ≡ 0 → ⊥ }
+{
+    LittleEndian::read_u16(bytes) == u16::from(push_tag(queue))
+}
+
 /// The DWORD and the turns of the pair at the front of some bytes, where so many turns are left to the stream.
 #[inline(always)]
 fn pair_at(queue: Queue, left: u32, bytes: &[u8]) -> Option<(u32, u32)>
-    requires { left ≤ most_turns }
+    requires few { left ≤ most_turns }
+    requires whole { 11 ≤ length bytes.now }
     ensures pair { IfSome result (λ pair. IsPair queue (most_turns - left) bytes.now pair.0 pair.1) }
     ensures left { IfSome result (λ pair. pair.1 ≤ left) }
     ensures none { IfNone result (NoPair queue (most_turns - left) bytes.now) }
 {
-    if bytes.len() < PAIR
-        || bytes[0] != push_tag(queue)
-        || bytes[1] != PIXELS_VALID
-        || bytes[6] != tags::TURNS
-    {
+    if !is_valid_push(queue, bytes) || bytes[6] != tags::TURNS {
         return None;
     }
     let dword = LittleEndian::read_u32(&bytes[2..]);

@@ -1,29 +1,21 @@
-use Rattle.std.proofs.Common.{rules, ◌≡◌, ◌-◌, ◌∙◌, Some, drop, subst, sym, arith}
+use Rattle.std.proofs.Common.{rules, ◌≡◌, ◌-◌, Some, drop, subst, arith}
 use Rattle.std.proofs.lemmas.List.{take_rest}
 use Rattle.capture_file.specs.Streams.{most_turns, number_at}
 use Rattle.capture_file.proofs.OtherRecords.{number_there, pair_bytes, same_number}
-use Rattle.capture_file.proofs.pairs.pair_at.Goals.{then-bytes-lt-PAIR-via-then-bytes-lt-PAIR}
-use Rattle.capture_file.proofs.pairs.pair_at.Goals.{then-bytes-lt-PAIR-via-else-bytes-lt-PAIR+then-bytes-push_tag}
-use Rattle.capture_file.proofs.pairs.pair_at.Goals.{
-  then-bytes-lt-PAIR-via-else-bytes-lt-PAIR+else-bytes-push_tag+then-bytes-ne-PIXELS_VALID,
-}
-use Rattle.capture_file.proofs.pairs.pair_at.Goals.{
-  then-bytes-lt-PAIR-via-else-bytes-lt-PAIR+else-bytes-push_tag+else-bytes-ne-PIXELS_VALID+then-bytes-ne-TURNS,
-}
 use Rattle.capture_file.proofs.pairs.pair_at.Goals.{then-turns-eq0-via-then-turns-eq0, then-turns-eq0-via-else-turns-eq0+then-turns-left}
+use Rattle.capture_file.proofs.pairs.pair_at.Goals.{
+  then-not-is_valid_push-via-then-not-is_valid_push,
+  then-not-is_valid_push-via-else-not-is_valid_push+then-bytes-ne-TURNS,
+}
 use Rattle.capture_file.proofs.pairs.pair_at.Goals as goal
 
-pub returns-then-bytes-lt-PAIR-clause-none : goal.returns-then-bytes-lt-PAIR-clause-none
-returns-then-bytes-lt-PAIR-clause-none c = λ dword count is.
+pub returns-then-not-is_valid_push-clause-none : goal.returns-then-not-is_valid_push-clause-none
+returns-then-not-is_valid_push-clause-none c = λ dword count is.
     let known = pair_bytes c.args.queue (most_turns - c.args.left) c.args.bytes.now dword count (omega arith) is in
-    let whole = is.whole in
-    elim c.then-bytes-lt-PAIR.branch [
-      | then-bytes-lt-PAIR-via-then-bytes-lt-PAIR w ↦ omega (arith, whole, w.if-bytes-lt-PAIR.true)
-      | then-bytes-lt-PAIR-via-else-bytes-lt-PAIR+then-bytes-push_tag w ↦ w.if-bytes-push_tag.true (known.tag ∙ sym w.push_tag.ensures)
-      | then-bytes-lt-PAIR-via-else-bytes-lt-PAIR+else-bytes-push_tag+then-bytes-ne-PIXELS_VALID w ↦
-          w.if-bytes-ne-PIXELS_VALID.true known.status
-      | then-bytes-lt-PAIR-via-else-bytes-lt-PAIR+else-bytes-push_tag+else-bytes-ne-PIXELS_VALID+then-bytes-ne-TURNS w ↦
-          w.if-bytes-ne-TURNS.true known.turn
+    elim c.then-not-is_valid_push.branch [
+      | then-not-is_valid_push-via-then-not-is_valid_push w ↦
+          c.is_valid_push.ensures.no w.if-not-is_valid_push.true known.tag known.status
+      | then-not-is_valid_push-via-else-not-is_valid_push+then-bytes-ne-TURNS w ↦ w.if-bytes-ne-TURNS.true known.turn
     ]
 
 pub returns-then-turns-eq0-clause-none : goal.returns-then-turns-eq0-clause-none
