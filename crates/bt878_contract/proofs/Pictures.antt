@@ -18,13 +18,13 @@ use Rattle.picture_law.specs.Pictures.{Picture}
 use Rattle.picture_law.specs.Sections.{section_of}
 use Rattle.picture_law.specs.Runs.{IsCapture, IsSignalled, between}
 use Rattle.picture_law.proofs.Places.{run_shows_picture, run_tells_field}
-use Rattle.damage_law.specs.Marks.{answer, last_step, marks}
-use Rattle.damage_law.proofs.LastSignals.{answers_stay}
-use Rattle.damage_map.specs.Asked.{HoldsLine}
-use Rattle.damage_map.proofs.ArrivedFields.{arrived_rows_are_whole}
-use Rattle.damage_map.proofs.StandingRows.{whole_rows_stand, whole_rows_took_asked}
-use Rattle.damage_law.proofs.EnteredRows.{whole_rows_entered}
-use Rattle.damage_law.specs.Standing.{HaveEntered, IsSignalSince, row_entries}
+use Rattle.damage_model.specs.Marks.{answer, last_step, marks}
+use Rattle.damage_model.proofs.LastSignals.{answers_stay}
+use Rattle.damage_law.specs.Asked.{HoldsLine}
+use Rattle.damage_law.proofs.ArrivedFields.{arrived_rows_are_whole}
+use Rattle.damage_law.proofs.StandingRows.{whole_rows_stand, whole_rows_took_asked}
+use Rattle.damage_model.proofs.EnteredRows.{whole_rows_entered}
+use Rattle.damage_model.specs.Standing.{HaveEntered, IsSignalSince, row_entries}
 use Rattle.bt878_contract.specs.Rows.{HasArrivedRows, HoldsWholeRows, IsSignalFrom}
 use Rattle.check_law.specs.Laws.{Found}
 use Rattle.check_law.specs.Runs.{IsCapture as FoundCapture, IsEnded}

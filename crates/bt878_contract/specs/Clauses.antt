@@ -29,7 +29,7 @@ use Rattle.command_texts.specs.Texts.{accepted_text, answer_text, blocks_text, m
 use Rattle.command_inputs.specs.Programs.{HoldsSound}
 use Rattle.stream_play.specs.Runs.{IsRun, LiveRan, Ran, chain_ran, first_of, last_live_of, last_of, live_steps_of, OfRun}
 use Rattle.command_inputs.specs.Descriptions.{Describes, GivesDescribed}
-use Rattle.damage_text.specs.Texts.{damage_text}
+use Rattle.command_texts.specs.DamageTexts.{damage_text}
 use Rattle.command_inputs.specs.Listings.{GivesAssembled}
 use Rattle.command_inputs.specs.Checked.{FindsBy}
 use Rattle.command_inputs.specs.Rings.{GivesRing}

@@ -14,8 +14,8 @@ use Rattle.field_law.specs.Arrivals.{is_signal}
 use Rattle.picture_law.specs.Pictures.{Picture}
 use Rattle.picture_law.specs.Runs.{between, signals_at}
 use Rattle.picture_law.specs.Sections.{section_of}
-use Rattle.damage_law.specs.Marks.{answer, is_opening, last_step, marks}
-use Rattle.damage_map.specs.Asked.{HoldsLine}
+use Rattle.damage_model.specs.Marks.{answer, is_opening, last_step, marks}
+use Rattle.damage_law.specs.Asked.{HoldsLine}
 use Rattle.bt878_contract.specs.Pictures.{ArrivesUpTo, IsCompiled}
 
 -- where a picture arrives up to step k, and this is the field's last signal, every row of the field is whole

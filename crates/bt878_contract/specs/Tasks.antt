@@ -17,8 +17,8 @@ use Rattle.capture_file.specs.Programs.{program_of, spelled}
 use Rattle.capture_file.specs.Streams.{steps_of, steps_run}
 use Rattle.picture_model.specs.Programs.{compiled}
 use Rattle.pixel_layout.specs.declared.Parity.{Parity}
-use Rattle.damage_law.specs.Marks.{answer}
-use Rattle.damage_text.specs.Texts.{damage_text}
+use Rattle.damage_model.specs.Marks.{answer}
+use Rattle.command_texts.specs.DamageTexts.{damage_text}
 use Rattle.field_stream.specs.Made.{made, made_entries, made_fields}
 use Rattle.dma_machine.specs.Facts.{report_of}
 use Rattle.risc_listing.specs.Listings.{listing}

@@ -21,11 +21,11 @@ use Rattle.picture_model.specs.Described.{describes, fields_of, rows_of as pictu
 use Rattle.picture_model.specs.Programs.{compiled}
 use Rattle.field_stream.specs.Made.{made, made_entries, made_fields}
 use Rattle.program_build.proofs.Checking.{checked_sound}
-use Rattle.damage_map.specs.Laws.{map_after}
+use Rattle.damage_law.specs.Laws.{map_after}
 use Rattle.damage_map.specs.Maps.{Map, rows_of}
 use Rattle.damage_map.specs.Tracks.{track_notes}
-use Rattle.damage_map.proofs.AnswersKept.{keeps_answers}
-use Rattle.damage_text.specs.Texts.{damage_text, field_text}
+use Rattle.damage_law.proofs.AnswersKept.{keeps_answers}
+use Rattle.command_texts.specs.DamageTexts.{damage_text, field_text}
 use Rattle.ring_model.specs.Rings.{Ring, ring_program}
 use Rattle.ring_model.proofs.Sound.{ring_sound}
 use Rattle.ring_machine.specs.States.{RingState}

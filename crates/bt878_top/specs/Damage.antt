@@ -1,9 +1,9 @@
 -- What is printed of the rows of a description after a whole stream.
 use Rattle.std.specs.Prelude.{◌≡◌, List, ℕ, []}
 use Rattle.capture_desc.specs.declared.desc.Desc.{Desc}
-use Rattle.damage_map.specs.Laws.{map_after}
+use Rattle.damage_law.specs.Laws.{map_after}
 use Rattle.damage_map.specs.Maps.{Map, rows_of}
-use Rattle.damage_text.specs.Texts.{damage_text}
+use Rattle.command_texts.specs.DamageTexts.{damage_text}
 use Rattle.damage_map.specs.Tracks.{track_notes}
 use Rattle.stream_play.specs.Plays.{HasPlayedWatched}
 

@@ -3,7 +3,7 @@ use Rattle.std.specs.Prelude.{ℕ, List, [], ◌∷◌}
 use Rattle.capture_file.specs.Images.{image_of}
 use Rattle.capture_file.specs.Programs.{spelled}
 use Rattle.damage_map.specs.Maps.{rows_of}
-use Rattle.damage_text.specs.Texts.{damage_text}
+use Rattle.command_texts.specs.DamageTexts.{damage_text}
 use Rattle.field_stream.specs.Made.{made}
 use Rattle.command_steps.specs.Outputs.{Product}
 use Rattle.trace_play.specs.Playing.{text_left}

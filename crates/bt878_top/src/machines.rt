@@ -1,7 +1,7 @@
 //! The machines that commands play streams on, each before its first step.
 
 ghost use Rattle.std.specs.Prelude.{◌≡◌, [], IfOk};
-ghost use Rattle.damage_map.specs.Laws.{map_after};
+ghost use Rattle.damage_law.specs.Laws.{map_after};
 ghost use Rattle.machine_model.specs.States.{first_state};
 ghost use Rattle.machine_watch.specs.Watches.{watching};
 ghost use Rattle.picture_model.specs.Programs.{compiled};

@@ -8,7 +8,7 @@ ghost use Rattle.capture_desk.specs.Desks.{IsAllowed};
 ghost use Rattle.command_steps.specs.Outputs.{Finishes};
 ghost use Rattle.command_steps.specs.Reading.{Takes};
 ghost use Rattle.damage_map.specs.Maps.{rows_of};
-ghost use Rattle.damage_text.specs.Texts.{damage_text};
+ghost use Rattle.command_texts.specs.DamageTexts.{damage_text};
 
 use crate::machines::{machine_of_description, machine_of_ring, map_of};
 use crate::produced::{Outputs, Produced, say_alone};
@@ -17,7 +17,7 @@ use capture_desk::Desk;
 use command_inputs::{Loaded, accept, buffer_file, check_file, frame_file, ring_file};
 use command_texts::{Answer, Refusal};
 use damage_map::Track;
-use damage_text::push_damage;
+use command_texts::push_damage;
 use machine_watch::Watched;
 use page_ram::PageRam;
 use pixel_layout::Parity;

@@ -5,7 +5,7 @@ use Rattle.pixel_layout.specs.declared.Parity.{Parity}
 use Rattle.machine_model.specs.States.{State}
 use Rattle.machine_model.specs.Steps.{Control, Host, Push, Turn}
 use Rattle.capture_desc.specs.declared.desc.Desc.{Desc}
-use Rattle.damage_map.proofs.SectionRuns.{holds_line, idle_memory, opens_at as about_to_open}
+use Rattle.damage_law.proofs.SectionRuns.{holds_line, idle_memory, opens_at as about_to_open}
 use Rattle.chain_model.specs.Chains.{Chain, IsChain, IsSoundChain}
 use Rattle.chain_model.specs.Live.{IsLiveStep, Live, LiveStep, Patch, Plain}
 use Rattle.chain_law.specs.Pictures.{step_at}

@@ -19,8 +19,8 @@ use Rattle.picture_model.specs.Programs.{begin_by, body, closing, next_by, openi
 use Rattle.picture_model.proofs.Sections.{section_stands}
 use Rattle.field_law.specs.Sections.{IsPlain, StandsFrom, words_in}
 use Rattle.picture_law.proofs.Program.{words_in-words_of}
-use Rattle.damage_map.proofs.AnswersKept.{field_same, first_field, same_read, signals_apart}
-use Rattle.damage_map.proofs.Compiled.{words_append}
+use Rattle.damage_law.proofs.AnswersKept.{field_same, first_field, same_read, signals_apart}
+use Rattle.damage_law.proofs.Compiled.{words_append}
 use Rattle.chain_model.specs.declared.PartWords.{PartWords}
 use Rattle.chain_model.specs.Chains.{Chain, IsChain, alone, alone_in, head, next, part_of, slot_at, words_of_parts}
 use Rattle.chain_model.proofs.Slots.{length-alone}

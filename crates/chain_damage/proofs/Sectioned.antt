@@ -22,12 +22,12 @@ use Rattle.field_law.specs.Sections.{closing_at, words_in}
 use Rattle.field_law.specs.Arrivals.{is_signal}
 use Rattle.field_law.specs.Arrivals as arrivals
 use Rattle.picture_law.proofs.Between.{range_first, range_split}
-use Rattle.damage_law.specs.Marks.{is_opening_at}
-use Rattle.damage_law.proofs.Held.{IsHeld}
+use Rattle.damage_model.specs.Marks.{is_opening_at}
+use Rattle.damage_model.proofs.Held.{IsHeld}
 use Rattle.damage_map.specs.Tracks.{FieldTrack}
-use Rattle.damage_map.proofs.AnswersKept.{pc_at}
-use Rattle.damage_map.proofs.Compiled.{SkipsFew, skips_few}
-use Rattle.damage_map.proofs.SectionRuns.{Follows, InSection, begins, begun, follows, opens_at}
+use Rattle.damage_law.proofs.AnswersKept.{pc_at}
+use Rattle.damage_law.proofs.Compiled.{SkipsFew, skips_few}
+use Rattle.damage_law.proofs.SectionRuns.{Follows, InSection, begins, begun, follows, opens_at}
 use Rattle.chain_model.specs.Chains.{Chain, IsChain, IsSoundChain, Patching, alone, head, next, part_of, patched, slot_at}
 use Rattle.chain_model.specs.Live.{IsLive, IsLiveStep, Live, LiveStep, Patch, Plain, first_live, live_step}
 use Rattle.chain_model.proofs.Live.{IsLive-at}

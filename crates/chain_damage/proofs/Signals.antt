@@ -33,10 +33,10 @@ use Rattle.capture_desc.specs.declared.desc.Desc.{Desc}
 use Rattle.picture_model.specs.Programs.{body, opening, signal}
 use Rattle.field_law.specs.Sections.{IsPlain, StandsFrom, closing_at, words_in}
 use Rattle.field_law.specs.Arrivals.{is_signal}
-use Rattle.damage_law.specs.Marks.{is_opening_at, is_synced}
-use Rattle.damage_map.proofs.AnswersKept.{pc_at, signal_by}
-use Rattle.damage_map.proofs.SectionRuns.{busy_stays}
-use Rattle.damage_map.proofs.SectionSteps.{push-Unmoved, push_control-Unmoved}
+use Rattle.damage_model.specs.Marks.{is_opening_at, is_synced}
+use Rattle.damage_law.proofs.AnswersKept.{pc_at, signal_by}
+use Rattle.damage_law.proofs.SectionRuns.{busy_stays}
+use Rattle.damage_law.proofs.SectionSteps.{push-Unmoved, push_control-Unmoved}
 use Rattle.chain_model.specs.Chains.{Belongs, Chain, IsChain, IsSoundChain, Patching, alone, alone_in, jump_word, part_at, patched}
 use Rattle.chain_model.specs.Chains.{slot_at, target}
 use Rattle.chain_model.specs.Live.{IsLive, IsLiveStep, Live, LiveStep, Patch, Plain, first_live, live_step}

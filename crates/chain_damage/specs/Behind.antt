@@ -3,7 +3,7 @@ use Rattle.std.specs.Prelude.{◌≡◌, ℕ, ◌≤◌, true, All, List}
 use Rattle.pixel_layout.specs.declared.Parity.{Parity}
 use Rattle.machine_model.specs.Steps.{Turn}
 use Rattle.capture_desc.specs.declared.desc.Desc.{Desc}
-use Rattle.damage_law.specs.Marks.{is_opening_at}
+use Rattle.damage_model.specs.Marks.{is_opening_at}
 use Rattle.chain_model.specs.Chains.{Chain, IsChain, IsSoundChain}
 use Rattle.chain_model.specs.Live.{IsLiveStep, LiveStep, Plain, first_live}
 use Rattle.chain_law.specs.Pictures.{IsFirstSignal, section_in, step_at}

@@ -8,8 +8,8 @@ use Rattle.capture_desc.specs.declared.desc.Desc.{Desc}
 use Rattle.picture_model.specs.Described.{describes}
 use Rattle.picture_model.specs.Programs.{section_begin}
 use Rattle.field_law.specs.Arrivals.{is_signal}
-use Rattle.damage_law.specs.Marks.{is_opening_at, marks_at}
-use Rattle.damage_map.specs.Asked.{HoldsLine}
+use Rattle.damage_model.specs.Marks.{is_opening_at, marks_at}
+use Rattle.damage_law.specs.Asked.{HoldsLine}
 use Rattle.chain_model.specs.Chains.{Chain, IsChain, head}
 use Rattle.chain_model.specs.Live.{IsLiveStep, LiveStep, Patch, Plain}
 use Rattle.chain_law.specs.Behind.{machine_steps}

@@ -1,1 +1,3 @@
 mod Bytes
+pub mod MarkByMark
+mod Heights

@@ -1,7 +1,7 @@
 //! Texts of rows that are whole.
 
 use capture_desc::{Desc, read_desc};
-use damage_text::push_damage;
+use command_texts::push_damage;
 use risc_listing::Lines;
 use std::test::Fail;
 

@@ -1,13 +1,18 @@
-mod QueuesShrink
-mod Leaving
-mod WholeLines
-pub mod Orders
-pub mod ArrivedTakes
-pub mod LastSignals
-pub mod StoredTakes
-pub mod LineBytes
-pub mod PlacedTakes
-pub mod Held
-pub mod Pieces
-pub mod EnteredRows
-mod Worked
+mod Histories
+mod LineTold
+mod Bursts
+mod Sections
+mod Visits
+mod SectionTurns
+pub mod SectionSteps
+pub mod Compiled
+pub mod AnswersKept
+pub mod ArrivedTurns
+pub mod ArrivedSteps
+pub mod ArrivedFields
+pub mod PlacedLines
+pub mod PlacedTurns
+pub mod PlacedSteps
+pub mod PlacedRows
+pub mod StandingRows
+pub mod SectionRuns

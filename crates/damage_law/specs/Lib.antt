@@ -1,8 +1,3 @@
-pub mod Takings
-pub mod Lines
-pub mod Marks
+pub mod Laws
 pub mod Worked
-pub mod Orders
-pub mod Arrived
-pub mod LastSignals
-pub mod Standing
+pub mod Asked

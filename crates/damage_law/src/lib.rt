@@ -1,5 +1,4 @@
-//! Which rows of a captured field are whole lines, apart from any code (this project's own rules). The definitions are
-//! in `specs/`.
+//! Laws of damage maps: what a track keeps of a field's rows, what was taken for them and where their bytes are.
 #![tactic(auto)]
 
 pub mod laws;

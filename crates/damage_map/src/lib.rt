@@ -2,7 +2,6 @@
 #![tactic(auto)]
 
 mod before;
-pub mod laws;
 mod lines;
 mod mapped;
 mod mark;

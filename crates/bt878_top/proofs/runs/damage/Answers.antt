@@ -1,8 +1,8 @@
 use Rattle.std.proofs.Common.{[], ◌∷◌, false, subst, refl}
-use Rattle.damage_map.specs.Laws.{map_after}
+use Rattle.damage_law.specs.Laws.{map_after}
 use Rattle.damage_map.specs.Maps.{rows_of}
 use Rattle.damage_map.specs.Tracks.{track_notes}
-use Rattle.damage_text.specs.Texts.{damage_text}
+use Rattle.command_texts.specs.DamageTexts.{damage_text}
 use Rattle.command_inputs.specs.Descriptions.{a_description}
 use Rattle.stream_play.specs.Plays.{HasPlayedWatched, PlaysAll, watch_act}
 use Rattle.stream_play.specs.Runs.{a_stream}

@@ -1,5 +1,0 @@
-use Rattle.damage_law.proofs.LastSignals.{answers_stay}
-use Rattle.damage_law.proofs.laws.answers_stay_after_the_last_signal.Goals as goal
-
-pub returns : goal.returns
-returns c = answers_stay

@@ -1,5 +1,0 @@
-use Rattle.damage_law.proofs.Leaving.{turn-drops}
-use Rattle.damage_law.proofs.laws.entries_leave_at_the_front.Goals as goal
-
-pub returns : goal.returns
-returns c = turn-drops

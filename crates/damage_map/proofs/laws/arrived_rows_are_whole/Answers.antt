@@ -1,5 +1,0 @@
-use Rattle.damage_map.proofs.ArrivedFields as proved
-use Rattle.damage_map.proofs.laws.arrived_rows_are_whole.Goals as goal
-
-pub returns : goal.returns
-returns c = proved.arrived_rows_are_whole

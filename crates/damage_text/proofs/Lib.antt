@@ -1,2 +1,0 @@
-pub mod MarkByMark
-mod Heights

@@ -1,0 +1,7 @@
+pub mod StreamBeginnings
+pub mod StreamSpellings
+pub mod WorkedStreams
+pub mod ProgramBeginnings
+pub mod ProgramRoom
+pub mod SpelledPrograms
+pub mod WorkedPrograms

@@ -1,5 +1,0 @@
-use Rattle.program_law.proofs.Spellings.{spelled_back}
-use Rattle.program_law.proofs.spelled_programs_are_read_back.Goals as goal
-
-pub returns : goal.returns
-returns c = spelled_back

@@ -1,4 +1,0 @@
-pub mod Beginnings
-pub mod Spelled
-pub mod Worked
-pub mod Room

@@ -1,8 +1,0 @@
-use Rattle.stream_law.proofs.Files.{has_spelling, one_spelling}
-use Rattle.stream_law.proofs.streams_have_one_spelling.Goals as goal
-
-pub returns-clause-some : goal.returns-clause-some
-returns-clause-some c = has_spelling
-
-pub returns-clause-one : goal.returns-clause-one
-returns-clause-one c = one_spelling
