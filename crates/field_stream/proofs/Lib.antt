@@ -5,3 +5,5 @@ pub mod Chroma
 pub mod Counting
 pub mod Making
 pub mod Turning
+pub mod Redrawing
+pub mod Whole

@@ -1,5 +1,6 @@
 -- Bytes that are drafted and put, one part after the other.
-use Rattle.std.proofs.Common.{◌≡◌, ℕ, zero, suc, ◌+◌, ◌-◌, ◌<◌, zero-add, suc-add, List, [], ◌∷◌, ◌++◌, length, take, Result, Ok, Err, refl}
+use Rattle.std.proofs.Common.{◌≡◌, ℕ, zero, suc, ◌+◌, ◌-◌, ◌<◌, ◌≤◌, zero-add, suc-add, List, [], ◌∷◌, ◌++◌}
+use Rattle.std.proofs.Common.{length, take, Result, Ok, Err, refl}
 use Rattle.std.proofs.Common.{sym, ap, subst, ◌∙◌, arith, append_assoc, length-append}
 use Rattle.std.proofs.lemmas.List.{take-append-le, append-nil}
 use Rattle.std.proofs.Math.Seq.{take-append-add}
@@ -117,6 +118,12 @@ pushed_next : (i : ℕ) (pushes : List Push) (d : Drafted) →
     pushed_all pushes (pushed_all (repeated i pushes) d) ≡ pushed_all (repeated (i + 1) pushes) d
 pushed_next i pushes d = sym (pushed_once pushes (pushed_all (repeated i pushes) d)) ∙ pushed_split i 1 (i + 1) pushes d refl
 
+-- the first, and the others
+pub repeated_some : (count : ℕ) (pushes : List Push) → 1 ≤ count → pushes ++ repeated (count - 1) pushes ≡ repeated count pushes
+repeated_some zero pushes some = absurd (omega arith)
+repeated_some (suc more) pushes some =
+    ap (λ (n : ℕ). pushes ++ repeated n pushes) (let same : suc more - 1 ≡ more = omega arith in same)
+
 pub repeat_moved : (i : ℕ) (pushes : List Push) (first mid held : Drafted) (old t told : Told) →
     IsMoved (pushed_all (repeated i pushes) first) mid old t →
     IsMoved (pushed_all pushes mid) held t told → IsMoved (pushed_all (repeated (i + 1) pushes) first) held old told
@@ -145,6 +152,10 @@ repeat_broken i count pushes first mid old t told below m b =
 pub moves_as : {A E : Type 0} (a b : List Push) (d held : Drafted) (old told : Told) (r : Result A E) → a ≡ b →
     Moves (pushed_all a d) r held old told → Moves (pushed_all b d) r held old told
 moves_as a b d held old told r e m = subst (λ (ps : List Push). Moves (pushed_all ps d) r held old told) e m
+
+pub moved_as : (a b : List Push) (d held : Drafted) (old told : Told) → a ≡ b → IsMoved (pushed_all a d) held old told →
+    IsMoved (pushed_all b d) held old told
+moved_as a b d held old told e m = subst (λ (ps : List Push). IsMoved (pushed_all ps d) held old told) e m
 
 pub broken_as : (a b : List Push) (d : Drafted) (old told : Told) → a ≡ b → IsBroken (pushed_all a d) old told →
     IsBroken (pushed_all b d) old told

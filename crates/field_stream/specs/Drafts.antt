@@ -1,8 +1,9 @@
 -- The bytes of a stream that are made but not put yet.
 use Rattle.std.specs.Prelude.{◌≡◌, ℕ, ◌<◌, List, [], ◌∷◌, ◌++◌, length, take, Result, Ok, Err}
 use Rattle.capture_desk.specs.Desks.{Told, after_write}
+use Rattle.field_stream.specs.declared.lines.Line.{Line}
 use Rattle.field_stream.specs.Pushes.{Push}
-use Rattle.field_stream.specs.Made.{after, records_of}
+use Rattle.field_stream.specs.Made.{after, records, records_of}
 
 -- with the number of the generator
 pub record Drafted : Type 0 where
@@ -37,3 +38,12 @@ pub record IsBroken (whole : Drafted) (old told : Told) : Type 0 where
 abbrev pub Moves : {A E : Type 0} → Drafted → Result A E → Drafted → Told → Told → Type 0
 Moves whole (Ok _) held old told = IsMoved whole held old told
 Moves whole (Err _) held old told = IsBroken whole old told
+
+-- a line, and its records with some bytes
+pub record Patterned : Type 0 where
+  pub line : Line
+  pub bytes : List ℕ
+
+-- the records of some pushes, whatever is drawn
+abbrev pub AreRecords : List Push → List ℕ → Type 0
+AreRecords pushes bytes = (number : ℕ) × (bytes ≡ records number pushes)

@@ -1,8 +1,9 @@
 -- A line as the code keeps it.
-use Rattle.std.specs.Prelude.{◌≡◌, ◌≤◌, ◌*◌, List, ⊤}
+use Rattle.std.specs.Prelude.{◌≡◌, ◌≤◌, ◌*◌, List, [], ◌∷◌, ⊤}
+use Rattle.sync_status.specs.Statuses.{valid_bytes}
 use Rattle.field_stream.specs.declared.lines.Line.{Line}
 use Rattle.field_stream.specs.declared.lines.Line.TheVariants.{Packed, Planar}
-use Rattle.field_stream.specs.Pushes.{Push, packed_line, planar_line}
+use Rattle.field_stream.specs.Pushes.{Push, Mark, Fill, packed_line, planar_line}
 
 abbrev pub line_pushes : Line → List Push
 line_pushes (Packed bytes) = packed_line bytes
@@ -17,3 +18,9 @@ IsShort (Planar luma chroma across) = (5 ≤ luma) × (luma ≤ 1024) × (5 ≤ 
 abbrev pub IsEven : Line → Type 0
 IsEven (Packed bytes) = ⊤
 IsEven (Planar luma chroma across) = luma ≡ chroma * across
+
+-- each of some pushes is of an entry of four bytes
+abbrev pub AreWhole : List Push → Type 0
+AreWhole [] = ⊤
+AreWhole (Mark code ∷ rest) = ⊥
+AreWhole (Fill queue status ∷ rest) = (valid_bytes status ≡ 4) × AreWhole rest

@@ -1,15 +1,16 @@
 //! Bytes of a stream that are made but not put yet.
 
-ghost use Rattle.std.specs.Prelude.{◌≡◌, ◌+◌, ◌*◌, ◌<◌, ◌≤◌, [], ◌++◌, length};
+ghost use Rattle.std.specs.Prelude.{◌≡◌, ◌+◌, ◌*◌, ◌<◌, ◌≤◌, [], ◌++◌, length, drop};
 ghost use Rattle.sync_status.specs.Statuses.{valid_bytes};
 ghost use Rattle.field_stream.specs.Generator.{first_number};
 ghost use Rattle.field_stream.specs.Pushes.{Mark, Fill, chroma_after, line_entries, packed_line, planar_at, planar_line};
 ghost use Rattle.field_stream.specs.Made.{tag_of};
-ghost use Rattle.field_stream.specs.Lines.{IsShort, line_pushes};
+ghost use Rattle.field_stream.specs.Lines.{AreWhole, IsShort, line_pushes};
 ghost use Rattle.field_stream.specs.Drafts.{Drafted, pushed, pushed_all};
 
 use crate::generator::Generator;
 use crate::lines::{Line, line_entries, status};
+use crate::template::Template;
 use capture_file::tags;
 use fifo_model::Queue;
 use risc_word::Code;
@@ -132,7 +133,8 @@ impl Draft {
     fn packed_line(&mut self, bytes: u32)
         requires bytes { 5 ≤ bytes }
         requires room { length self.old.bytes + 11 * line_entries bytes ≤ 32768 }
-        ensures { self.new ≡ pushed_all (packed_line bytes) self.old }
+        ensures value { self.new ≡ pushed_all (packed_line bytes) self.old }
+        ensures length { length self.new.bytes ≡ length self.old.bytes + 11 * line_entries bytes }
     {
         let last = line_entries(bytes) - 1;
         for index in 0..last {
@@ -178,7 +180,8 @@ impl Draft {
         requires chroma { 5 ≤ chroma }
         requires across { 1 ≤ across }
         requires room { length self.old.bytes + 33 * line_entries luma ≤ 32768 }
-        ensures { self.new ≡ pushed_all (planar_line luma chroma across) self.old }
+        ensures value { self.new ≡ pushed_all (planar_line luma chroma across) self.old }
+        ensures length { length self.new.bytes ≤ length self.old.bytes + 33 * line_entries luma }
     {
         for index in 0..line_entries(luma) {
             self.planar_at(luma, chroma, across, index);
@@ -189,7 +192,8 @@ impl Draft {
     pub(crate) fn line(&mut self, line: Line)
         requires short { IsShort line }
         requires room { length self.old.bytes + 11264 ≤ 32768 }
-        ensures { self.new ≡ pushed_all (line_pushes line) self.old }
+        ensures value { self.new ≡ pushed_all (line_pushes line) self.old }
+        ensures few { length self.new.bytes ≤ length self.old.bytes + 11264 }
     {
         match line {
             Line::Packed { bytes } => self.packed_line(bytes),
@@ -199,5 +203,36 @@ impl Draft {
                 across,
             } => self.planar_line(luma, chroma, across),
         }
+    }
+    // What stands behind so many bytes.
+    fn behind(&self, from: usize) -> &[u8]
+        requires { from ≤ length self.now.bytes }
+        ensures { result.now ≡ drop from self.now.bytes }
+    {
+        &self.as_slice()[from..]
+    }
+
+    // A line of which each entry holds four bytes, and its template.
+    pub(crate) fn template(&mut self, line: Line) -> Template
+        requires short { IsShort line }
+        requires whole { AreWhole (line_pushes line) }
+        requires room { length self.old.bytes + 11264 ≤ 32768 }
+        ensures line { result.line ≡ line }
+        ensures value { self.new ≡ pushed_all (line_pushes line) self.old }
+    {
+        let from = self.as_slice().len();
+        self.line(line);
+        Template::of(line, self.behind(from))
+    }
+
+    // A line by its template.
+    pub(crate) fn again(&mut self, template: &mut Template)
+        requires { length self.old.bytes + 11264 ≤ 32768 }
+        ensures line { template.new.line ≡ template.old.line }
+        ensures value { self.new ≡ pushed_all (line_pushes template.old.line) self.old }
+    {
+        let drawn = template.draw(&self.generator);
+        self.append(template.as_slice());
+        self.generator.pass(drawn);
     }
 }

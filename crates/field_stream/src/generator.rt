@@ -13,8 +13,8 @@ const FREE: u8 = 0xff;
 // After so many bytes the generator is at its first number again.
 const TURN: usize = 65_536;
 
-// The bytes of a turn, and of the lanes that begin in it and end in the next.
-const BYTES: usize = 65_540;
+// The bytes of a turn, and of a line that begins in it and ends in the next.
+const BYTES: usize = 69_632;
 
 // The bytes that are drawn from a first number on, and how many of a turn were drawn. Contracts see the
 // number that the generator is at.
@@ -63,17 +63,28 @@ impl Generator {
         }
     }
 
-    // The next four bytes.
+    // The four bytes behind so many others.
     #[inline]
-    fn next_four(&self) -> [u8; 4]
-        ensures { result ≡ drawn self.now 4 }
+    pub(crate) fn four_behind(&self, others: usize) -> [u8; 4]
+        requires { others ≤ 4092 }
+        ensures { result ≡ drawn (number_after self.now others) 4 }
     {
+        let at = self.at + others;
         [
-            self.bytes[self.at],
-            self.bytes[self.at + 1],
-            self.bytes[self.at + 2],
-            self.bytes[self.at + 3],
+            self.bytes[at],
+            self.bytes[at + 1],
+            self.bytes[at + 2],
+            self.bytes[at + 3],
         ]
+    }
+
+    // Passes so many bytes.
+    #[inline]
+    pub(crate) fn pass(&mut self, count: usize)
+        requires { count ≤ 4096 }
+        ensures { self.new ≡ number_after self.old count }
+    {
+        self.at = (self.at + count) % TURN;
     }
 
     // Draws the valid lanes of an entry, and answers its four lanes.
@@ -83,8 +94,8 @@ impl Generator {
         ensures lanes { result ≡ lanes self.old valid }
         ensures number { self.new ≡ number_after self.old valid }
     {
-        let [a, b, c, d] = self.next_four();
-        self.at = (self.at + usize::from(valid)) % TURN;
+        let [a, b, c, d] = self.four_behind(0);
+        self.pass(usize::from(valid));
         match valid {
             1 => [a, FREE, FREE, FREE],
             2 => [a, b, FREE, FREE],

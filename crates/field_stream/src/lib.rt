@@ -7,6 +7,7 @@ mod generator;
 mod laws;
 mod lines;
 mod stream;
+mod template;
 
 pub use counts::Made;
 pub use laws::the_smallest_stream;

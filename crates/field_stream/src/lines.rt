@@ -1,9 +1,9 @@
 //! Lines and their entries.
 
-ghost use Rattle.std.specs.Prelude.{◌≡◌, ◌<◌, ◌≤◌};
+ghost use Rattle.std.specs.Prelude.{◌≡◌, ◌<◌, ◌≤◌, IsTrue};
 ghost use Rattle.sync_status.specs.Statuses.{valid_bytes};
 ghost use Rattle.field_stream.specs.Pushes.{end_status, entries_in, line_entries, packed_line, picture_line, status_at};
-ghost use Rattle.field_stream.specs.Lines.{IsEven, IsShort, line_pushes};
+ghost use Rattle.field_stream.specs.Lines.{AreWhole, IsEven, IsShort, line_pushes};
 
 use planar_plan::Frame;
 use sync_status::Status;
@@ -69,6 +69,17 @@ impl Line {
         match self {
             Line::Packed { bytes } => line_entries(bytes),
             Line::Planar { luma, chroma, .. } => line_entries(luma) + 2 * line_entries(chroma),
+        }
+    }
+
+    // Whether each of its entries holds four bytes.
+    pub(crate) fn is_whole(self) -> bool
+        requires { IsShort self }
+        ensures { IsTrue result → AreWhole (line_pushes self) }
+    {
+        match self {
+            Line::Packed { bytes } => bytes % 4 == 0,
+            Line::Planar { luma, chroma, .. } => luma % 4 == 0 && chroma % 4 == 0,
         }
     }
 }

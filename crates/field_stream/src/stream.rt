@@ -5,13 +5,14 @@ ghost use Rattle.capture_desk.specs.Desks.{Puts, WriteCounts, after_write};
 ghost use Rattle.picture_model.specs.Described.{describes, fields_of, vbi_skip};
 ghost use Rattle.planar_plan.specs.Frames.{IsFramed};
 ghost use Rattle.field_stream.specs.Pushes.{Mark, field_pushes, frame_pushes, picture_pushes, repeated, stream_pushes, vbi_pushes};
-ghost use Rattle.field_stream.specs.Lines.{IsShort, line_pushes};
+ghost use Rattle.field_stream.specs.Lines.{AreWhole, IsShort, line_pushes};
 ghost use Rattle.field_stream.specs.Made.{made, made_entries, made_fields};
 ghost use Rattle.field_stream.specs.Drafts.{Moves, pushed, pushed_all};
 
 use crate::counts::Made;
 use crate::draft::{Draft, LINE, ROOM};
 use crate::lines::{Line, picture_line, vbi_line};
+use crate::template::Template;
 use capture_desc::Fields;
 use capture_desk::{Desk, Failed, put};
 use capture_file::tags;
@@ -55,7 +56,8 @@ fn put_line<D: Desk>(draft: &mut Draft, desk: &mut D, line: Line) -> Result<(), 
     Ok(())
 }
 
-fn put_lines<D: Desk>(draft: &mut Draft, desk: &mut D, count: u32, line: Line) -> Result<(), Failed>
+// Some lines, each on its own.
+fn put_each<D: Desk>(draft: &mut Draft, desk: &mut D, count: u32, line: Line) -> Result<(), Failed>
     requires open { IsTrue (D.seen desk.old).told.output_open }
     requires short { IsShort line }
     ensures moves { Moves (pushed_all (repeated count (line_pushes line)) draft.old) result draft.new (D.seen desk.old).told
@@ -66,6 +68,69 @@ fn put_lines<D: Desk>(draft: &mut Draft, desk: &mut D, count: u32, line: Line) -
         put_line(draft, desk, line)?;
     }
     Ok(())
+}
+
+fn put_again<D: Desk>(
+    draft: &mut Draft,
+    desk: &mut D,
+    template: &mut Template,
+) -> Result<(), Failed>
+    requires open { IsTrue (D.seen desk.old).told.output_open }
+    ensures line { template.new.line ≡ template.old.line }
+    ensures moves { Moves (pushed_all (line_pushes template.old.line) draft.old) result draft.new (D.seen desk.old).told
+        (D.seen desk.new).told }
+    ensures counts { WriteCounts result (D.seen desk.old) (D.seen desk.new) }
+{
+    make_room(draft, desk)?;
+    draft.again(template);
+    Ok(())
+}
+
+// Some lines by their template.
+fn put_copies<D: Desk>(
+    draft: &mut Draft,
+    desk: &mut D,
+    count: u32,
+    template: &mut Template,
+) -> Result<(), Failed>
+    requires open { IsTrue (D.seen desk.old).told.output_open }
+    ensures moves { Moves (pushed_all (repeated count (line_pushes template.old.line)) draft.old) result draft.new (D.seen desk.old).told
+        (D.seen desk.new).told }
+    ensures counts { WriteCounts result (D.seen desk.old) (D.seen desk.new) }
+{
+    for _done in 0..count {
+        put_again(draft, desk, template)?;
+    }
+    Ok(())
+}
+
+// Some lines of which each entry holds four bytes: the first is the template of the others.
+fn put_whole<D: Desk>(draft: &mut Draft, desk: &mut D, count: u32, line: Line) -> Result<(), Failed>
+    requires open { IsTrue (D.seen desk.old).told.output_open }
+    requires short { IsShort line }
+    requires whole { AreWhole (line_pushes line) }
+    requires some { 1 ≤ count }
+    ensures moves { Moves (pushed_all (repeated count (line_pushes line)) draft.old) result draft.new (D.seen desk.old).told
+        (D.seen desk.new).told }
+    ensures counts { WriteCounts result (D.seen desk.old) (D.seen desk.new) }
+{
+    make_room(draft, desk)?;
+    let mut template = draft.template(line);
+    put_copies(draft, desk, count - 1, &mut template)
+}
+
+fn put_lines<D: Desk>(draft: &mut Draft, desk: &mut D, count: u32, line: Line) -> Result<(), Failed>
+    requires open { IsTrue (D.seen desk.old).told.output_open }
+    requires short { IsShort line }
+    ensures moves { Moves (pushed_all (repeated count (line_pushes line)) draft.old) result draft.new (D.seen desk.old).told
+        (D.seen desk.new).told }
+    ensures counts { WriteCounts result (D.seen desk.old) (D.seen desk.new) }
+{
+    if count > 0 && line.is_whole() {
+        put_whole(draft, desk, count, line)
+    } else {
+        put_each(draft, desk, count, line)
+    }
 }
 
 // The VBI lines of a field, if there are any, and those that are skipped before them.

@@ -10,4 +10,4 @@ returns-in_err-make_room-clause-moves g c =
 
 pub returns-clause-moves : goal.returns-clause-moves
 returns-clause-moves g c =
-    moved_filled (line_pushes c.args.line) _ _ _ _ _ c.in_ok-make_room.ensures.moves c.line.ensures
+    moved_filled (line_pushes c.args.line) _ _ _ _ _ c.in_ok-make_room.ensures.moves c.line.ensures.value

@@ -17,8 +17,8 @@ loop-index-preserved c =
       length = omega (arith, c.entry.ensures.length, c.loop-index.invariant.length);
     }
 
-pub returns : goal.returns
-returns c =
+pub returns-clause-value : goal.returns-clause-value
+returns-clause-value c =
     let bytes = c.args.bytes in
     let last : c.loop-index.index ≡ c.line_entries-last.result - 1 = omega (arith, c.loop-index-test.false, c.loop-index.auto.index-end) in
     let all : c.loop-index.index + 1 ≡ line_entries bytes = omega (arith, last, c.line_entries-last.ensures, c.requires.bytes) in

@@ -2,7 +2,7 @@ use Rattle.capture_desk.specs.Desks.{OnlyWrites}
 use Rattle.field_stream.specs.Pushes.{repeated}
 use Rattle.field_stream.specs.Lines.{line_pushes}
 use Rattle.field_stream.specs.Drafts.{IsMoved, pushed_all}
-use Rattle.field_stream.proofs.stream.put_lines.Given as goal
+use Rattle.field_stream.proofs.stream.put_each.Given as goal
 
 abbrev pub invariant-loop-done : goal.invariant-loop-done
 invariant-loop-done g l =

@@ -2,7 +2,7 @@ use Rattle.std.proofs.Common.{arith, refl, ◌∙◌}
 use Rattle.std.proofs.lemmas.Result.{err_from_is_err_and}
 use Rattle.field_stream.specs.Lines.{line_pushes}
 use Rattle.field_stream.proofs.Moving.{moved_none, repeat_broken, repeat_moved}
-use Rattle.field_stream.proofs.stream.put_lines.Goals as goal
+use Rattle.field_stream.proofs.stream.put_each.Goals as goal
 
 pub loop-done-init : goal.loop-done-init
 loop-done-init g c = record { moved = moved_none _ _; counts = (refl, refl, refl) }
