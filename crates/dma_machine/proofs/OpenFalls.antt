@@ -1,5 +1,6 @@
 -- A plain entry falls through an open machine, and leaves it open where its queue is asked for more.
-use Rattle.std.proofs.Common.{◌≡◌, ℕ, zero, suc, ◌+◌, ◌-◌, ◌<◌, ◌≤◌, ◌^◌, ◌==◌, Bool, true, false, not, List, [], ◌∷◌, length, replicate, Option, Some, None, option_map}
+use Rattle.std.proofs.Common.{◌≡◌, ℕ, zero, suc, ◌+◌, ◌-◌, ◌<◌, ◌≤◌, ◌^◌, ◌==◌, Bool, true, false, not}
+use Rattle.std.proofs.Common.{List, [], ◌∷◌, length, replicate, Option, Some, None, option_map}
 use Rattle.std.proofs.Common.{refl, sym, ap, subst, ◌∙◌, arith}
 use Rattle.std.specs.Prelude.{◌&&◌, ◌||◌, is_none, nat_le}
 use Rattle.std.proofs.lemmas.Bool.{and_parts, not-true}
@@ -179,7 +180,8 @@ module _ (q : Queue) (entry : Entry) (m : State) (instr : Instr) (ds : Demands) 
       let counted : State = with_turns (more m.turns count) fallen in
       let still : is_still counted ≡ true = is_still-turns (more m.turns count) fallen ∙ open_still fallen open_behind in
       first_counted count (push q entry m) fallen counted counted many (omega (arith, few))
-      (sym (falls_acted q entry m instr ds fifo running falls_open)) refl (sym (still_times (count - 1) counted (still_acted counted still)))
+      (sym (falls_acted q entry m instr ds fifo running falls_open)) refl
+      (sym (still_times (count - 1) counted (still_acted counted still)))
 
 -- an instruction runs
 pub open_running : (at : Phase) (wait : Wait) (instr : Instr) (ds : Demands) (m : State) → m.job ≡ job_of at wait instr ds →

@@ -86,7 +86,8 @@ impl<R: Ram> Engine<R> {
         requires orderly { IsFifo self.old.queues }
         requires stands { StandsAs self.old.standing (state_of R.memory self.old) }
         ensures falls { result ≡ true → falls_through q entry.now.status (state_of R.memory self.old) ≡ true }
-        ensures state { result ≡ true → state_of R.memory self.new ≡ run (push q entry.now (state_of R.memory self.old)) (replicate count Turn) }
+        ensures state { result ≡ true →
+            state_of R.memory self.new ≡ run (push q entry.now (state_of R.memory self.old)) (replicate count Turn) }
         ensures none { result ≡ false → self.new ≡ self.old }
         ensures stands { StandsAs self.new.standing (state_of R.memory self.new) }
     {

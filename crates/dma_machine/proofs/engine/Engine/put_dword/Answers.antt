@@ -18,7 +18,8 @@ store_run-requires-clause-granted g c =
     ap (λ d. d.address) (sym c.demand_on-demand.ensures) ∙ c.in-Some.is in
     let range : range_cause grants (Some c.in-Some.at) (length c.args.bytes.now) ≡ None =
     ap (λ a. range_cause grants a (length c.args.bytes.now)) (sym address)
-    ∙ part-written grants c.args.q m.demands (length c.args.bytes.now) (omega (arith, c.requires.four, c.requires.asked)) c.requires.within in
+    ∙ part-written grants c.args.q m.demands (length c.args.bytes.now) (omega (arith, c.requires.four, c.requires.asked))
+    c.requires.within in
     (written-IsRange grants c.in-Some.at (length c.args.bytes.now) range).whole
 
 pub returns-in-Some-clause-state : goal.returns-in-Some-clause-state
@@ -51,4 +52,5 @@ returns-in-None-clause-state g c =
     ∙ ap (λ d. with_demand c.args.q d m.demands)
     (less_none c.demand_on-demand.result (demand_on c.args.q m.demands) c.demand_on-demand.ensures c.in-None.is))
     (ap (λ a. put_at before.memory a c.args.bytes.now) (sym address))
-    ((let small : m.moved ≡ more m.moved 0 = omega arith in small) ∙ ap (more m.moved) (sym (ap (λ a. count_at a c.args.bytes.now) address)))
+    ((let small : m.moved ≡ more m.moved 0 = omega arith in small)
+    ∙ ap (more m.moved) (sym (ap (λ a. count_at a c.args.bytes.now) address)))
