@@ -1,5 +1,5 @@
 -- The turn behind the push of an entry that falls through stores its bytes, and leaves the queues as they were.
-use Rattle.std.proofs.Common.{◌≡◌, ℕ, ◌+◌, ◌<◌, ◌≤◌, ◌⊎◌, inl, inr, Bool, true, false, not, ◌==◌, List, [], ◌∷◌, ◌++◌, length, Option, Some}
+use Rattle.std.proofs.Common.{◌≡◌, ℕ, ◌+◌, ◌<◌, ◌≤◌, ◌⊎◌, inl, inr, true, false, not, ◌==◌, List, [], ◌∷◌, ◌++◌, length, Option, Some}
 use Rattle.std.proofs.Common.{None, refl, sym, ap, subst, ◌∙◌, arith, if◌then◌else◌}
 use Rattle.std.specs.Prelude.{◌&&◌, is_none}
 use Rattle.std.proofs.lemmas.Bool.{and_parts, and_right, not-true}
@@ -31,7 +31,6 @@ use Rattle.dma_machine.specs.declared.engine.Wait.{Wait}
 use Rattle.dma_machine.specs.Views.{job_of}
 use Rattle.dma_machine.specs.Counts.{acted}
 use Rattle.dma_machine.specs.FallThrough.{MovesWhole, fallen_through, falls_in, falls_through, moved_whole, none_before}
-use Rattle.dma_machine.specs.Stills.{StillIf, runs_still, works_still}
 use Rattle.dma_machine.specs.WholeTakes.{takes_whole}
 use Rattle.dma_machine.proofs.Noting.{all_noted-seen_burst, whole_noted}
 use Rattle.dma_machine.proofs.WholeTakes.{IsWhole, plain_whole}
@@ -317,13 +316,3 @@ falls_running at wait instr ds q status m is e =
     by_phase phase.Idle e = absurd cc
     by_phase phase.Waiting e = absurd cc
     by_phase phase.Running e = refl
-
--- so it stands still where no queue is served and more is asked
-pub running_still : (flag : Bool) (m after : State) (q : Queue) (status : ℕ) (instr : Instr) (ds : Demands) →
-    falls_through q status m ≡ true → after.risc_on ≡ m.risc_on →
-    after.job ≡ Running instr ds → flag ≡ runs_still ds after → StillIf flag after
-running_still true m after q status instr ds e same running is =
-    let on = and_parts m.fifo_on (m.risc_on && falls_in m.job q status m) e in
-    let runs = and_parts m.risc_on (falls_in m.job q status m) on.1 in
-    ap (λ on. if on then works_still after.job after else true) (same ∙ runs.0) ∙ ap (λ job. works_still job after) running ∙ sym is
-running_still false m after q status instr ds e same running is = tt

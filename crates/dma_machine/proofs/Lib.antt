@@ -18,3 +18,4 @@ pub mod PlainTakes
 pub mod PlainRuns
 pub mod PlainRoom
 pub mod PlainPushes
+pub mod OpenFalls

@@ -1,8 +1,11 @@
--- A flag that isn't set means nothing, and one that is set means that the machine stands still.
-use Rattle.std.proofs.Common.{◌≡◌, Bool, true, false}
+-- Where nothing is noted of how the machine stands, nothing is said.
+use Rattle.std.proofs.Common.{◌≡◌}
 use Rattle.machine_model.specs.States.{State}
-use Rattle.dma_machine.specs.Stills.{StillIf}
+use Rattle.dma_machine.specs.declared.engine.Standing.{Standing}
+use Rattle.dma_machine.specs.declared.engine.Standing.TheVariants.{Unknown, Still, Open}
+use Rattle.dma_machine.specs.Stills.{StandsAs}
 
-pub not_still : (still : Bool) (m : State) → still ≡ false → StillIf still m
-not_still true m e = cc
-not_still false m e = tt
+pub not_still : (noted : Standing) (m : State) → noted ≡ Unknown → StandsAs noted m
+not_still Unknown m e = tt
+not_still Still m e = absurd cc
+not_still Open m e = absurd cc

@@ -74,21 +74,21 @@ asked_after q a b ds =
 -- ---- bytes that are stored one behind the other
 
 -- those of all lanes
-abbrev put_at : List Block → Option ℕ → List ℕ → List Block
+abbrev pub put_at : List Block → Option ℕ → List ℕ → List Block
 put_at memory None bytes = memory
 put_at memory (Some address) bytes = stored_run memory address bytes
 
-abbrev count_at : Option ℕ → List ℕ → ℕ
+abbrev pub count_at : Option ℕ → List ℕ → ℕ
 count_at None bytes = 0
 count_at (Some address) bytes = length bytes
 
-put_all : (memory : List Block) (off : ℕ) (address : Option ℕ) (bytes : List ℕ) → off ≡ 0 →
+pub put_all : (memory : List Block) (off : ℕ) (address : Option ℕ) (bytes : List ℕ) → off ≡ 0 →
     stored_all memory (stores_at address off 0 bytes) ≡ put_at memory address bytes
 put_all memory off None bytes e = refl
 put_all memory off (Some address) bytes e =
     ap (λ n. stored_all memory (stores_at (Some address) n 0 bytes)) e ∙ (all_stored memory 0 address bytes).stores
 
-count_all : (memory : List Block) (off : ℕ) (address : Option ℕ) (bytes : List ℕ) → off ≡ 0 →
+pub count_all : (memory : List Block) (off : ℕ) (address : Option ℕ) (bytes : List ℕ) → off ≡ 0 →
     length (stores_at address off 0 bytes) ≡ count_at address bytes
 count_all memory off None bytes e = refl
 count_all memory off (Some address) bytes e =

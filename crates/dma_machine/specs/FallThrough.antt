@@ -1,7 +1,8 @@
 -- An entry that falls through an empty queue: the turn behind its push takes it whole.
-use Rattle.std.specs.Prelude.{◌≡◌, ℕ, Bool, true, false, not, ◌&&◌, ◌==◌, is_none, List, length}
+use Rattle.std.specs.Prelude.{◌≡◌, ◌<◌, ℕ, Bool, true, false, not, ◌&&◌, ◌==◌, is_none, List, length}
 use Rattle.risc_word.specs.declared.Instr.{Instr}
 use Rattle.risc_word.specs.Parts.{instr_off}
+use Rattle.sync_status.specs.declared.StatusKind.TheVariants.{Pixels}
 use Rattle.sync_status.specs.Statuses.{kind_of}
 use Rattle.fifo_model.specs.declared.Entry.{Entry}
 use Rattle.fifo_model.specs.declared.Queue.{Queue}
@@ -15,6 +16,8 @@ use Rattle.machine_model.specs.declared.Job.TheVariants.{Running}
 use Rattle.machine_model.specs.declared.Seen.{Seen}
 use Rattle.machine_model.specs.States.{State}
 use Rattle.machine_model.specs.Turns.{Store, demand_less, demand_on, is_served, stored_all, stores_at, with_demand}
+use Rattle.dma_machine.specs.declared.engine.Standing.{Standing}
+use Rattle.dma_machine.specs.declared.engine.Standing.TheVariants.{Open}
 use Rattle.dma_machine.specs.WholeTakes.{takes_whole}
 
 -- no queue before this one is served
@@ -32,6 +35,13 @@ falls_in _ q status m = false
 
 abbrev pub falls_through : Queue → ℕ → State → Bool
 falls_through q status m = m.fifo_on && (m.risc_on && falls_in m.job q status m)
+
+-- what is asked of an entry, with so many turns behind it, that falls through an open machine and leaves it open
+pub record FallsOpen (q : Queue) (status count : ℕ) (noted : Standing) (ds : Demands) : Type 0 where
+  pub some : 0 < count
+  pub stands : noted ≡ Open
+  pub plain : kind_of status ≡ Pixels
+  pub more : 4 < (demand_on q ds).rest
 
 -- bytes that lie in the lanes from `lane` on are stored, and no longer asked for
 abbrev pub put_down : Queue → ℕ → Instr → Demands → ℕ → List ℕ → State → State

@@ -1,5 +1,6 @@
 -- Where a machine stands still: its turns do nothing but count until a push or a write of the host comes.
-use Rattle.std.specs.Prelude.{◌≡◌, Bool, true, false, not, ◌&&◌, is_none, if◌then◌else◌}
+use Rattle.std.specs.Prelude.{◌≡◌, Bool, true, false, not, ◌&&◌, ◌==◌, is_none, if◌then◌else◌}
+use Rattle.risc_word.specs.Parts.{instr_off}
 use Rattle.fifo_model.specs.declared.Queue.TheVariants.{One, Two, Three}
 use Rattle.fifo_model.specs.Queues.{Queues}
 use Rattle.machine_model.specs.declared.Demands.{Demands}
@@ -7,6 +8,8 @@ use Rattle.machine_model.specs.declared.Job.{Job}
 use Rattle.machine_model.specs.declared.Job.TheVariants.{Idle, Waiting, Running}
 use Rattle.machine_model.specs.States.{State}
 use Rattle.machine_model.specs.Turns.{common_code, is_done, is_served, lowest_stray}
+use Rattle.dma_machine.specs.declared.engine.Standing.{Standing}
+use Rattle.dma_machine.specs.declared.engine.Standing.TheVariants.{Unknown, Still, Open}
 
 abbrev pub waits_still : Queues → Bool
 waits_still queues = is_none (lowest_stray queues) && is_none (common_code queues)
@@ -25,7 +28,21 @@ works_still (Running instr ds) m = runs_still ds m
 abbrev pub is_still : State → Bool
 is_still m = if m.risc_on then works_still m.job m else true
 
--- a flag for it is set nowhere else
-abbrev pub StillIf : Bool → State → Type 0
-StillIf true m = is_still m ≡ true
-StillIf false m = Unit {0}
+-- no queue's line has yet to begin
+abbrev pub have_begun : Demands → Bool
+have_begun ds = not ds.one.needs_sol && not ds.two.needs_sol && not ds.three.needs_sol
+
+-- it stands still, and a plain entry falls through where its queue is asked for four bytes
+abbrev pub opens : Job → State → Bool
+opens (Running instr ds) m =
+    m.fifo_on && m.risc_on && (m.trigger == 1) && (instr_off instr == 0) && have_begun ds && runs_still ds m
+opens _ m = false
+
+abbrev pub is_open : State → Bool
+is_open m = opens m.job m
+
+-- what a machine notes of it holds
+abbrev pub StandsAs : Standing → State → Type 0
+StandsAs Unknown m = Unit {0}
+StandsAs Still m = is_still m ≡ true
+StandsAs Open m = is_open m ≡ true

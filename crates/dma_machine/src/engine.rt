@@ -21,6 +21,18 @@ pub enum Phase {
     Running,
 }
 
+/// What is known of the turns to come, up to a push or a write of the host.
+#[derive(Clone, Copy)]
+pub enum Standing {
+    /// Nothing.
+    Unknown,
+    /// They do nothing but count.
+    Still,
+    /// The same of a machine through which plain entries fall: both enables are on, one entry makes a queue ready, an instruction
+    /// runs that has no lane off, and each of its lines has begun.
+    Open,
+}
+
 /// The SYNC of a machine that waits.
 #[derive(Clone, Copy)]
 pub struct Wait {
@@ -36,8 +48,7 @@ pub struct Engine<R> {
     pub phase: Phase,
     pub fifo_on: bool,
     pub risc_on: bool,
-    /// Set only where turns do nothing but count until a push or a write of the host comes.
-    pub still: bool,
+    pub standing: Standing,
     pub trigger: u16,
     pub demands: Demands,
     pub turns: u64,

@@ -1,7 +1,7 @@
 //! What is not a turn: pushes of the decoder, writes of the host, the report, and the first state.
 
 use crate::Report;
-use crate::engine::{Engine, Phase, Wait};
+use crate::engine::{Engine, Phase, Standing, Wait};
 use crate::parts::demands_of;
 use fifo_model::{Entry, Fifo, Pushed, Queue};
 use irq_status::{FBUS, HostWrite, IntStat};
@@ -28,9 +28,9 @@ impl<R: Ram> Engine<R> {
         requires { is_control (kind_of e.status) ≡ false }
         ensures state { state_of R.memory self.new ≡ push q e (state_of R.memory self.old) }
         ensures answer { result ≡ pushed_as q (state_of R.memory self.old) }
-        ensures still { self.new.still ≡ false }
+        ensures stands { self.new.standing ≡ Standing.Unknown }
     {
-        self.still = false;
+        self.standing = Standing::Unknown;
         if !self.fifo_on {
             return Pushed::Off;
         }
@@ -46,9 +46,9 @@ impl<R: Ram> Engine<R> {
     pub fn push_control(&mut self, c: Code) -> Pushed
         ensures state { state_of R.memory self.new ≡ push_control c (state_of R.memory self.old) }
         ensures answer { result ≡ control_pushed_as (state_of R.memory self.old) }
-        ensures still { self.new.still ≡ false }
+        ensures stands { self.new.standing ≡ Standing.Unknown }
     {
-        self.still = false;
+        self.standing = Standing::Unknown;
         if !self.fifo_on {
             return Pushed::Off;
         }
@@ -113,10 +113,10 @@ impl<R: Ram> Engine<R> {
     pub fn host(&mut self, w: HostWrite)
         requires { IsWrite w }
         ensures state { state_of R.memory self.new ≡ host w (state_of R.memory self.old) }
-        ensures still { self.new.still ≡ false }
+        ensures stands { self.new.standing ≡ Standing.Unknown }
     {
         self.write(w);
-        self.still = false;
+        self.standing = Standing::Unknown;
     }
 
     /// Where the next turn fetches, if it does.
@@ -174,7 +174,7 @@ impl<R: Ram> Engine<R> {
         requires granted { chunks_of (R.memory ram) ≡ accepted.grants }
         requires empty { queues ≡ empty_fifo }
         ensures state { state_of R.memory result ≡ started accepted (R.memory ram) queues }
-        ensures still { result.still ≡ false }
+        ensures stands { result.standing ≡ Standing.Unknown }
         ensures facts { IsMachine (state_of R.memory result) }
     {
         let instr = Instr::Jump {
@@ -205,7 +205,7 @@ impl<R: Ram> Engine<R> {
             demands: demands_of(&instr, None),
             turns: 0,
             moved: 0,
-            still: false,
+            standing: Standing::Unknown,
         }
     }
 }

@@ -26,6 +26,7 @@ ghost use Rattle.sync_status.specs.Statuses.{is_control, kind_of};
 mod engine;
 mod fetching;
 mod host;
+mod opening;
 mod parts;
 mod plain;
 mod running;
@@ -33,7 +34,7 @@ mod seeing;
 mod stores;
 mod turning;
 
-use engine::Engine;
+use engine::{Engine, Standing};
 use fifo_model::{Entry, Fifo, Pushed, Queue};
 use irq_status::HostWrite;
 pub use machine_model::{Did, Seen};
@@ -74,7 +75,7 @@ pub struct Machine<R: Ram> {
 
 impl<R: Ram> Model for Machine<R> {
     ghost use Rattle.dma_machine.specs.Facts.{IsMachine};
-    ghost use Rattle.dma_machine.specs.Stills.{StillIf};
+    ghost use Rattle.dma_machine.specs.Stills.{StandsAs};
     ghost use Rattle.dma_machine.specs.Views.{state_of};
     ghost use Rattle.machine_model.specs.States.{State};
 
@@ -83,7 +84,7 @@ impl<R: Ram> Model for Machine<R> {
     ghost view = { λ machine. state_of R.memory machine.engine };
 
     ghost invariant = { λ machine. IsMachine (state_of R.memory machine.engine)
-        × StillIf machine.engine.still (state_of R.memory machine.engine) };
+        × StandsAs machine.engine.standing (state_of R.memory machine.engine) };
 }
 
 impl<R: Ram> Machine<R> {
@@ -157,7 +158,7 @@ impl<R: Ram> Machine<R> {
     fn is_known_still(&self) -> bool
         ensures { result ≡ true → is_still self.now ≡ true }
     {
-        self.engine.still
+        self.engine.is_known_still()
     }
 
     /// Notes that the machine stands still, so that the compiler sees it too.
@@ -166,7 +167,9 @@ impl<R: Ram> Machine<R> {
         requires { is_still self.old ≡ true }
         ensures { self.new ≡ self.old }
     {
-        self.engine.still = true;
+        if !self.engine.is_known_still() {
+            self.engine.standing = Standing::Still;
+        }
     }
 
     /// Takes so many turns, which are counted, of a machine that stands still: they do nothing. They have a loop of their own,
@@ -246,18 +249,66 @@ impl<R: Ram> Machine<R> {
         }
     }
 
+    /// The same of an entry that doesn't fall through an open machine. Each queue has code of its own. Where one entry doesn't make
+    /// a queue ready, none falls through.
+    #[inline(never)]
+    fn push_and_turns_apart(&mut self, q: Queue, e: Entry, count: u32)
+        requires { is_control (kind_of e.status) ≡ false }
+        ensures state { self.new ≡ run (push q e self.old) (replicate count Turn) }
+        ensures facts { IsMachine self.new }
+    {
+        if self.engine.trigger != 1 {
+            self.push_apart(q, e, count);
+            return;
+        }
+        match q {
+            Queue::One => self.push_through(Queue::One, e, count),
+            Queue::Two => self.push_through(Queue::Two, e, count),
+            Queue::Three => self.push_through(Queue::Three, e, count),
+        }
+    }
+
+    /// A push of a plain entry that falls through an open machine and leaves it open, and so many turns behind it. Answers whether
+    /// that was done; where it wasn't, nothing was.
+    #[inline(always)]
+    fn fall_open_on(&mut self, q: Queue, e: &Entry, count: u32) -> bool
+        requires { is_control (kind_of e.now.status) ≡ false }
+        ensures falls { result ≡ true → falls_through q e.now.status self.old ≡ true }
+        ensures state { result ≡ true → self.new ≡ run (push q e.now self.old) (replicate count Turn) }
+        ensures none { result ≡ false → self.new ≡ self.old }
+        ensures before { IsMachine self.old }
+        ensures facts { IsMachine self.new }
+    {
+        self.engine.fall_open(q, e, count)
+    }
+
+    /// The same, with code of its own for each queue.
+    #[inline(always)]
+    fn fall_open(&mut self, q: Queue, e: &Entry, count: u32) -> bool
+        requires { is_control (kind_of e.now.status) ≡ false }
+        ensures falls { result ≡ true → falls_through q e.now.status self.old ≡ true }
+        ensures state { result ≡ true → self.new ≡ run (push q e.now self.old) (replicate count Turn) }
+        ensures none { result ≡ false → self.new ≡ self.old }
+        ensures before { IsMachine self.old }
+        ensures facts { IsMachine self.new }
+    {
+        match q {
+            Queue::One => self.fall_open_on(Queue::One, e, count),
+            Queue::Two => self.fall_open_on(Queue::Two, e, count),
+            Queue::Three => self.fall_open_on(Queue::Three, e, count),
+        }
+    }
+
     /// A push of a data entry to a queue, and so many turns of the controller behind it, as a stream mostly has them. Where
-    /// the first of these turns takes the entry whole, it need not enter its queue. Each queue has code of its own.
+    /// the first of these turns takes the entry whole, it need not enter its queue.
     #[inline(never)]
     pub fn push_and_turns(&mut self, q: Queue, e: Entry, count: u32)
         requires { is_control (kind_of e.status) ≡ false }
         ensures state { self.new ≡ run (push q e self.old) (replicate count Turn) }
         ensures facts { IsMachine self.new }
     {
-        match q {
-            Queue::One => self.push_through(Queue::One, e, count),
-            Queue::Two => self.push_through(Queue::Two, e, count),
-            Queue::Three => self.push_through(Queue::Three, e, count),
+        if !self.fall_open(q, &e, count) {
+            self.push_and_turns_apart(q, e, count);
         }
     }
 
@@ -282,11 +333,9 @@ impl<R: Ram> Machine<R> {
         falls
     }
 
-    /// A push of a data entry to a queue, and the turn behind it where this turn takes the entry whole, as it takes most
-    /// entries of a line: such an entry need not enter its queue. Answers whether the turn was taken. That turn neither
-    /// fetches an instruction nor retires one.
+    /// The same of an entry that doesn't fall through an open machine. Each queue has code of its own.
     #[inline(never)]
-    pub fn push_and_take(&mut self, q: Queue, e: Entry) -> bool
+    fn push_and_take_apart(&mut self, q: Queue, e: Entry) -> bool
         requires { is_control (kind_of e.status) ≡ false }
         ensures falls { result ≡ falls_through q e.status self.old }
         ensures pushed { result ≡ false → self.new ≡ push q e self.old }
@@ -300,6 +349,22 @@ impl<R: Ram> Machine<R> {
             Queue::Two => self.push_and_take_on(Queue::Two, e),
             Queue::Three => self.push_and_take_on(Queue::Three, e),
         }
+    }
+
+    /// A push of a data entry to a queue, and the turn behind it where this turn takes the entry whole, as it takes most
+    /// entries of a line: such an entry need not enter its queue. Answers whether the turn was taken. That turn neither
+    /// fetches an instruction nor retires one.
+    #[inline(never)]
+    pub fn push_and_take(&mut self, q: Queue, e: Entry) -> bool
+        requires { is_control (kind_of e.status) ≡ false }
+        ensures falls { result ≡ falls_through q e.status self.old }
+        ensures pushed { result ≡ false → self.new ≡ push q e self.old }
+        ensures taken { result ≡ true → self.new ≡ turn (push q e self.old) }
+        ensures seen { result ≡ true → MovesWhole q (seen (push q e self.old)) }
+        ensures before { IsMachine self.old }
+        ensures facts { IsMachine self.new }
+    {
+        self.fall_open(q, &e, 1) || self.push_and_take_apart(q, e)
     }
 
     /// How many plain entries, data entries with the status PixelsValid, `push_plain` may push to a queue. Where each of them has a

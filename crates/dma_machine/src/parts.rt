@@ -5,6 +5,7 @@ ghost use Rattle.machine_model.specs.Paths.{demand, demands_of, first_demand, no
 ghost use Rattle.machine_model.specs.Paths.{three_demands};
 ghost use Rattle.machine_model.specs.Turns.{demand_less, demand_on, is_cut_short, is_done, rest_of_line, skipping_after, with_demand};
 ghost use Rattle.dma_machine.specs.Plain.{whole_entries};
+ghost use Rattle.dma_machine.specs.Stills.{have_begun};
 ghost use Rattle.dma_machine.specs.WholeTakes.{takes_whole};
 ghost use Rattle.risc_word.specs.Words.{encoded};
 ghost use Rattle.std.specs.Prelude.{◌≡◌, ◌+◌, ◌≤◌, length};
@@ -243,6 +244,26 @@ pub fn is_done(demands: &Demands) -> bool
     ensures { result ≡ is_done demands.now }
 {
     demands.one.rest == 0 && demands.two.rest == 0 && demands.three.rest == 0
+}
+
+/// Whether no queue's line has yet to begin.
+#[inline]
+pub fn have_begun(demands: &Demands) -> bool
+    ensures { result ≡ have_begun demands.now }
+{
+    !demands.one.needs_sol && !demands.two.needs_sol && !demands.three.needs_sol
+}
+
+/// Sets what is asked of a queue.
+#[inline(always)]
+pub fn set_demand(demands: &mut Demands, q: Queue, demand: Demand)
+    ensures { demands.new ≡ with_demand q demand demands.old }
+{
+    match q {
+        Queue::One => demands.one = demand,
+        Queue::Two => demands.two = demand,
+        Queue::Three => demands.three = demand,
+    }
 }
 
 /// How many plain entries of a queue are taken whole before nothing more is asked of any.

@@ -16,7 +16,7 @@ impl<R: Ram> Engine<R> {
     ghost use Rattle.dma_machine.specs.Plain.{AreDwords, AreRun, AreTaken, all_pushed, lets_plain, plain_room};
     ghost use Rattle.dma_machine.specs.Facts.{HaveRoom};
     ghost use Rattle.machine_model.specs.PlainEntries.{dwords_of, plain_steps};
-    ghost use Rattle.dma_machine.specs.Stills.{StillIf};
+    ghost use Rattle.dma_machine.specs.Stills.{StandsAs};
     ghost use Rattle.dma_machine.specs.Views.{state_of};
     ghost use Rattle.fifo_model.specs.Queues.{IsFifo};
     ghost use Rattle.machine_model.specs.Paths.{RiscProgram, demands_cause};
@@ -96,7 +96,7 @@ impl<R: Ram> Engine<R> {
             (state_of R.memory self.new) ≡ run (with_program program (state_of R.memory self.old)) (plain_steps q entries) }
         ensures taken { (entries : List (ℕ × ℕ)) → AreRun dwords.now turns entries →
             AreTaken result q entries (state_of R.memory self.old) }
-        ensures still { StillIf self.new.still (state_of R.memory self.new) }
+        ensures stands { StandsAs self.new.standing (state_of R.memory self.new) }
     {
         let whole = dwords.len() - dwords.len() % (4 * usize::from(self.trigger));
         let taken = whole > 0;
@@ -105,7 +105,7 @@ impl<R: Ram> Engine<R> {
         }
         self.push_all(q, &dwords[whole..]);
         self.count(turns);
-        self.still = self.is_still();
+        self.standing = self.found_standing();
         taken
     }
 }

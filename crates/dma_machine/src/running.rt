@@ -20,7 +20,7 @@ impl<R: Ram> Engine<R> {
     ghost use Rattle.machine_model.specs.Turns.{apply, burst, burst_of, demand_on, is_cut_short, is_done, is_served, judged, lowest_served};
     ghost use Rattle.machine_model.specs.Turns.{ran, served, taking, took, verdict_at, with_fdsr, with_queue};
     ghost use Rattle.page_table.specs.Blocks.{chunks_of};
-    ghost use Rattle.dma_machine.specs.Stills.{StillIf, none_served, runs_still};
+    ghost use Rattle.dma_machine.specs.Stills.{StandsAs, none_served, runs_still};
     ghost use Rattle.std.specs.Prelude.{◌≡◌, ◌+◌, ◌≤◌, length, IsSome, None, Some, false, true};
     ghost use Rattle.sync_status.specs.Statuses.{valid_bytes};
 
@@ -301,9 +301,9 @@ impl<R: Ram> Engine<R> {
         requires falls { falls_through q entry.status (state_of R.memory self.old) ≡ true }
         requires orderly { IsFifo self.old.queues }
         ensures state { state_of R.memory self.new ≡ acted (push q entry (state_of R.memory self.old)) }
-        ensures still { StillIf self.new.still (state_of R.memory self.new) }
+        ensures stands { StandsAs self.new.standing (state_of R.memory self.new) }
     {
         self.put_down(q, 4, 0, &entry.dword.to_le_bytes());
-        self.still = self.runs_still();
+        self.standing = self.found_standing();
     }
 }

@@ -149,7 +149,7 @@ impl<R: Ram> Engine<R> {
     ghost use Rattle.dma_machine.specs.Needs.{Applied, CanWork, IsAddress};
     ghost use Rattle.dma_machine.specs.Looks.{next_retirement};
     ghost use Rattle.dma_machine.specs.Noted.{all_noted};
-    ghost use Rattle.dma_machine.specs.Stills.{StillIf};
+    ghost use Rattle.dma_machine.specs.Stills.{StandsAs};
     ghost use Rattle.dma_machine.specs.Views.{state_of};
     ghost use Rattle.machine_model.specs.Paths.{demands_cause, fetch};
     ghost use Rattle.machine_model.specs.Seen.{address_before, application, applications, bytes_taken, fetched_did, seen, seen_burst};
@@ -353,14 +353,14 @@ impl<R: Ram> Engine<R> {
         ensures state { state_of R.memory self.new ≡ acted (state_of R.memory self.old) }
         ensures seen { result.seen ≡ seen (state_of R.memory self.old) }
         ensures taken { result.taken ≡ taken (state_of R.memory self.old) }
-        ensures still { StillIf self.new.still (state_of R.memory self.new) }
+        ensures stands { StandsAs self.new.standing (state_of R.memory self.new) }
     {
         let told = if self.risc_on {
             self.work_told()
         } else {
             told_alone(Did::Still, self.address_before(0))
         };
-        self.still = self.is_still();
+        self.standing = self.found_standing();
         told
     }
 }

@@ -1,14 +1,14 @@
 //! Whole turns.
 
-use crate::engine::{Engine, Phase};
-use crate::parts::is_done;
+use crate::engine::{Engine, Phase, Standing};
+use crate::parts::{have_begun, is_done};
 use fifo_model::Queue;
 use page_ram::Ram;
 
 impl<R: Ram> Engine<R> {
     ghost use Rattle.dma_machine.specs.Counts.{acted, with_turns};
     ghost use Rattle.dma_machine.specs.Needs.{CanWork};
-    ghost use Rattle.dma_machine.specs.Stills.{StillIf, is_still, none_served, runs_still, waits_still};
+    ghost use Rattle.dma_machine.specs.Stills.{StandsAs, is_open, is_still, none_served, runs_still, waits_still};
     ghost use Rattle.dma_machine.specs.Views.{state_of};
     ghost use Rattle.fifo_model.specs.Queues.{more};
     ghost use Rattle.machine_model.specs.Turns.{worked};
@@ -72,13 +72,54 @@ impl<R: Ram> Engine<R> {
         }
     }
 
-    /// Whether turns do nothing but count, also where the flag isn't set yet.
+    /// Whether plain entries fall through a machine that stands still.
+    #[inline]
+    fn is_open(&self) -> bool
+        ensures { result ≡ is_open (state_of R.memory self.now) }
+    {
+        match self.phase {
+            Phase::Running => {
+                self.fifo_on
+                    && self.risc_on
+                    && self.trigger == 1
+                    && self.off == 0
+                    && have_begun(&self.demands)
+                    && self.runs_still()
+            }
+            Phase::Idle | Phase::Waiting => false,
+        }
+    }
+
+    /// How the machine stands now.
+    #[inline]
+    pub fn found_standing(&self) -> Standing
+        ensures { StandsAs result (state_of R.memory self.now) }
+    {
+        if !self.is_still() {
+            Standing::Unknown
+        } else if self.is_open() {
+            Standing::Open
+        } else {
+            Standing::Still
+        }
+    }
+
+    /// Whether turns are known to do nothing but count.
+    #[inline(always)]
+    pub fn is_known_still(&self) -> bool
+        requires { StandsAs self.now.standing (state_of R.memory self.now) }
+        ensures { result ≡ true → is_still (state_of R.memory self.now) ≡ true }
+    {
+        !matches!(self.standing, Standing::Unknown)
+    }
+
+    /// Whether turns do nothing but count, also where it isn't known yet.
     #[inline]
     pub fn stands_still(&self) -> bool
-        requires { StillIf self.now.still (state_of R.memory self.now) }
+        requires { StandsAs self.now.standing (state_of R.memory self.now) }
         ensures { result ≡ is_still (state_of R.memory self.now) }
     {
-        self.still || self.is_still()
+        self.is_known_still() || self.is_still()
     }
 
     /// Counts turns, which are then taken.
@@ -86,7 +127,7 @@ impl<R: Ram> Engine<R> {
     pub fn count(&mut self, count: u32)
         ensures state { state_of R.memory self.new ≡ with_turns (more self.old.turns count) (state_of R.memory self.old) }
         ensures few { self.old.turns < 2 ^ 64 }
-        ensures still { self.new.still ≡ self.old.still }
+        ensures stands { self.new.standing ≡ self.old.standing }
     {
         self.turns = self.turns.saturating_add(u64::from(count));
     }
@@ -97,10 +138,14 @@ impl<R: Ram> Engine<R> {
     fn act_anew(&mut self)
         requires { CanWork (state_of R.memory self.old).job (state_of R.memory self.old) }
         ensures state { state_of R.memory self.new ≡ acted (state_of R.memory self.old) }
-        ensures still { StillIf self.new.still (state_of R.memory self.new) }
+        ensures stands { StandsAs self.new.standing (state_of R.memory self.new) }
     {
         let worked = self.risc_on && self.work();
-        self.still = !worked || self.is_still();
+        self.standing = if worked {
+            self.found_standing()
+        } else {
+            Standing::Still
+        };
     }
 
     /// Takes a turn that is counted. It does nothing where the machine stands still.
@@ -108,11 +153,11 @@ impl<R: Ram> Engine<R> {
     #[tactic(auto, using(crate::proofs::Standing::still_acted))]
     pub fn act(&mut self)
         requires can { CanWork (state_of R.memory self.old).job (state_of R.memory self.old) }
-        requires still { StillIf self.old.still (state_of R.memory self.old) }
+        requires stands { StandsAs self.old.standing (state_of R.memory self.old) }
         ensures state { state_of R.memory self.new ≡ acted (state_of R.memory self.old) }
-        ensures still { StillIf self.new.still (state_of R.memory self.new) }
+        ensures stands { StandsAs self.new.standing (state_of R.memory self.new) }
     {
-        if !self.still {
+        if !self.is_known_still() {
             self.act_anew();
         }
     }

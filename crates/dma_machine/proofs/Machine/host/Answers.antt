@@ -5,7 +5,7 @@ use Rattle.dma_machine.proofs.Machine.host.Goals as goal
 
 pub invariant_of-self : goal.invariant_of-self
 invariant_of-self g c =
-    (IsMachine-step (Host c.args.w) _ _ c.host.ensures.state tt c.requires c.self.invariant.0, not_still _ _ c.host.ensures.still)
+    (IsMachine-step (Host c.args.w) _ _ c.host.ensures.state tt c.requires c.self.invariant.0, not_still _ _ c.host.ensures.stands)
 
 pub returns-clause-facts : goal.returns-clause-facts
 returns-clause-facts g c = IsMachine-step (Host c.args.w) _ _ c.host.ensures.state tt c.requires c.self.invariant.0

@@ -6,7 +6,7 @@ use Rattle.dma_machine.proofs.Machine.push_control.Goals as goal
 pub invariant_of-self : goal.invariant_of-self
 invariant_of-self g c = (
   IsMachine-step (Control c.args.c) _ _ c.push_control.ensures.state tt tt c.self.invariant.0,
-  not_still _ _ c.push_control.ensures.still,
+  not_still _ _ c.push_control.ensures.stands,
 )
 
 pub returns-clause-facts : goal.returns-clause-facts

@@ -11,7 +11,7 @@ pub invariant_of-self : goal.invariant_of-self
 invariant_of-self g c =
     let some = c.requires.plain in (
       subst IsMachine (sym (c.push_plain.ensures.state some.0 some.1)) (plain_leave c.args.q some.0 _ c.self.invariant.0),
-      c.push_plain.ensures.still,
+      c.push_plain.ensures.stands,
     )
 
 pub returns-clause-facts : goal.returns-clause-facts

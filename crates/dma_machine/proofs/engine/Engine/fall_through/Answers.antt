@@ -1,9 +1,8 @@
 use Rattle.std.proofs.Common.{ap, refl, sym, subst, ◌∙◌}
-use Rattle.machine_model.specs.States.{State}
 use Rattle.dma_machine.specs.FallThrough.{put_down}
 use Rattle.dma_machine.specs.Needs.{CanWork}
 use Rattle.dma_machine.specs.Views.{job_of, state_of}
-use Rattle.dma_machine.proofs.FallThrough.{falls_acted, falls_running, running_still}
+use Rattle.dma_machine.proofs.FallThrough.{falls_acted, falls_running}
 use Rattle.dma_machine.proofs.engine.Engine.fall_through.Goals as goal
 
 pub put_down-requires-clause-running : goal.put_down-requires-clause-running
@@ -27,11 +26,3 @@ returns-clause-state g c =
     ∙ ap (λ bytes. put_down c.args.q 4 m.instr m.demands 0 bytes before) c.to_le_bytes.ensures
     ∙ sym (falls_acted c.args.q c.args.entry before m.instr m.demands c.requires.orderly
     (ap (λ phase. job_of phase m.wait m.instr m.demands) running) c.requires.falls)
-
-pub returns-clause-still : goal.returns-clause-still
-returns-clause-still g c =
-    let now = c.put_down.new.self in
-    running_still _ (state_of g.R.Ram.memory c.args.self.now)
-    (state_of g.R.Ram.memory now) c.args.q c.args.entry.status now.instr now.demands c.requires.falls
-    (ap (λ (m : State). m.risc_on) c.put_down.ensures.state)
-    (ap (λ phase. job_of phase now.wait now.instr now.demands) c.put_down.ensures.running) c.runs_still-self.ensures
