@@ -15,6 +15,7 @@ pub mod Images
 pub mod SpansRead
 pub mod Spelled
 pub mod Unspelled
+pub mod KeptRead
 pub mod Feeding
 pub mod Imaged
 pub mod Growing

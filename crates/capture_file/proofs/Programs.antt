@@ -49,10 +49,10 @@ words_in-add (suc count) more bytes =
     ∙ ap (λ (rest : List ℕ). (little_number 4 bytes ∷ words_in count (drop 4 bytes)) ++ words_in more rest)
     (drop-drop (4 * count) 4 bytes ∙ ap (λ n. drop n bytes) next)
 
-pub words_group : (words bytes : List ℕ) (count at few : ℕ) → at + few ≤ count →
-    words ++ words_in (count - at) (drop (4 * at) bytes) ≡ words_in count bytes →
-    (words ++ words_in few (drop (4 * at) bytes)) ++ words_in (count - (at + few)) (drop (4 * (at + few)) bytes) ≡ words_in count bytes
-words_group words bytes count at few within h =
+pub words_group : (words bytes total : List ℕ) (count at few : ℕ) → at + few ≤ count →
+    words ++ words_in (count - at) (drop (4 * at) bytes) ≡ total →
+    (words ++ words_in few (drop (4 * at) bytes)) ++ words_in (count - (at + few)) (drop (4 * (at + few)) bytes) ≡ total
+words_group words bytes total count at few within h =
     let split : count - at ≡ few + (count - (at + few)) = omega arith in
     let next : 4 * at + 4 * few ≡ 4 * (at + few) = omega arith in
     append_assoc words (words_in few (drop (4 * at) bytes)) (words_in (count - (at + few)) (drop (4 * (at + few)) bytes))

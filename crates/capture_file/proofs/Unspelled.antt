@@ -76,7 +76,7 @@ form_is size word bytes rest x false false true e f g h =
     (Spanned, (eqb-true word (little_number 4 (codes "BRP3")) g, sym (ok_is (Spanned, rest) x h)))
 form_is size word bytes rest x false false false e f g h = absurd (cc)
 
-form_takes : (size : ℕ) (bytes : List ℕ) (x : ProgramForm × List ℕ) → IsBytes bytes → form_field size bytes ≡ Ok x →
+pub form_takes : (size : ℕ) (bytes : List ℕ) (x : ProgramForm × List ℕ) → IsBytes bytes → form_field size bytes ≡ Ok x →
     Takes bytes (name_of x.0) x.1
 unfolding form_field
 form_takes size [] x fits e = absurd (cc)
@@ -126,7 +126,7 @@ judged_number fault size bytes x e =
     let same : a.0 ≡ x = ok_is a.0 x b.2 in
     subst (λ (p : ℕ × List ℕ). (number_field size bytes ≡ Ok p) × (fault p.0 ≡ None)) same (a.1, judged_ok (fault a.0.0) size bytes b.0 b.1)
 
-base_takes : (size : ℕ) (bytes : List ℕ) (x : ℕ × List ℕ) → IsBytes bytes → base_field size bytes ≡ Ok x →
+pub base_takes : (size : ℕ) (bytes : List ℕ) (x : ℕ × List ℕ) → IsBytes bytes → base_field size bytes ≡ Ok x →
     Takes bytes (little_bytes 4 x.0) x.1 × (x.0 < 2 ^ 32) × (x.0 % 4 ≡ 0)
 unfolding base_field
 base_takes size bytes x fits e =
@@ -134,7 +134,7 @@ base_takes size bytes x fits e =
     let n = number_takes size bytes x fits a.0 in
     (n.0, n.1, eqb-true (x.0 % 4) 0 (some_fault (x.0 % 4 == 0) fault.Base a.1))
 
-word_count_takes : (size base : ℕ) (bytes : List ℕ) (x : ℕ × List ℕ) → IsBytes bytes → word_count_field size base bytes ≡ Ok x →
+pub word_count_takes : (size base : ℕ) (bytes : List ℕ) (x : ℕ × List ℕ) → IsBytes bytes → word_count_field size base bytes ≡ Ok x →
     Takes bytes (little_bytes 4 x.0) x.1 × (x.0 ≤ 1048576) × (base + 4 * x.0 ≤ 2 ^ 32)
 unfolding word_count_field
 word_count_takes size base bytes x fits e =
@@ -160,7 +160,7 @@ pub record AreWords (count : ℕ) (bytes : List ℕ) : Type 0 where
   pub len : length (words_in count bytes) ≡ count
   pub fit : All (λ word. word < 2 ^ 32) (words_in count bytes)
 
-words_are : (count : ℕ) (bytes : List ℕ) → IsBytes bytes → 4 * count ≤ length bytes → AreWords count bytes
+pub words_are : (count : ℕ) (bytes : List ℕ) → IsBytes bytes → 4 * count ≤ length bytes → AreWords count bytes
 words_are zero bytes fits long = record { parts = refl; len = refl; fit = λ k d h. absurd (omega arith) }
 words_are (suc count) [] fits long = absurd (omega arith)
 words_are (suc count) (a ∷ []) fits long = absurd (omega arith)

@@ -1,6 +1,6 @@
 -- What the bytes of a program file stand for, and the canonical encoding of a program.
-use Rattle.std.specs.Prelude.{◌≡◌, ℕ, zero, suc, ◌+◌, ◌-◌, ◌*◌, ◌%◌, ◌^◌, ◌<◌, Bool, not, ◌&&◌, List, [], ◌∷◌, ◌++◌, length, drop, Option}
-use Rattle.std.specs.Prelude.{Some, None, Result, Ok, Err, IsOk, if◌then◌else◌, ◌==◌, nat_lt, nat_le, codes}
+use Rattle.std.specs.Prelude.{◌≡◌, ℕ, zero, suc, ◌+◌, ◌-◌, ◌*◌, ◌%◌, ◌^◌, ◌<◌, ◌≤◌, Bool, not, ◌&&◌, List, [], ◌∷◌, ◌++◌}
+use Rattle.std.specs.Prelude.{length, drop, get_or, Option, Some, None, Result, Ok, Err, IsOk, if◌then◌else◌, ◌==◌, nat_lt, nat_le, codes}
 use Rattle.std.specs.List.{flat_map, list_all}
 use Rattle.byteorder.specs.Endian.{little_number, little_bytes}
 use Rattle.page_table.specs.Grants.{Chunk, chunk, is_page, max_bytes, max_chunks, page_size}
@@ -268,6 +268,22 @@ program_in size bytes = do
   fill ← fill_field form.0 size chunks.0 chunks.1
   Ok (record { program = with_grants placed.0 chunks.0; fill = fill })
 
+-- what is read behind the words of a program, and when the front of a file gave its words
+unfoldable pub behind_field : ProgramForm → ℕ → RiscProgram → List ℕ → Result ProgramFile FileFault
+behind_field form size placed bytes = do
+  count ← chunk_count_field size bytes
+  chunks ← chunks_field (layout_of form) size placed count.0 0 0 count.1
+  fill ← fill_field form size chunks.0 chunks.1
+  Ok (record { program = with_grants placed chunks.0; fill = fill })
+
+pub record IsPlaced (form : ProgramForm) (placed : RiscProgram) (size : ℕ) (rest : List ℕ) : Type 0 where
+  pub bytes : List ℕ
+  pub behind : List ℕ
+  pub fits : (i : ℕ) → get_or bytes i 0 < 256
+  pub whole : size ≡ length bytes
+  pub read : form_field (length bytes) bytes ≡ Ok (form, behind)
+  pub words : placed_field form (length bytes) behind ≡ Ok (placed, rest)
+
 abbrev pub program_of : List ℕ → Result ProgramFile FileFault
 program_of bytes = program_in (length bytes) bytes
 
@@ -339,6 +355,13 @@ abbrev pub name_of : ProgramForm → List ℕ
 name_of (Based Paged) = codes "BRP1"
 name_of (Based Chunked) = codes "BRP2"
 name_of Spanned = codes "BRP3"
+
+-- what is before the words of a program whose words are one after another
+pub record IsHead (bytes : List ℕ) (layout : Layout) (start count : ℕ) : Type 0 where
+  pub parts : bytes ≡ name_of (Based layout) ++ (little_bytes 4 start ++ little_bytes 4 count)
+  pub aligned : start % 4 ≡ 0
+  pub few : count ≤ max_words
+  pub ends : start + 4 * count ≤ 2 ^ 32
 
 abbrev pub grants_spelled : Layout → List Chunk → List ℕ
 grants_spelled layout chunks = little_bytes 4 (length chunks) ++ flat_map (chunk_in layout) chunks

@@ -6,6 +6,7 @@ use irq_status::HostWrite;
 use risc_word::Code;
 
 mod image;
+mod kept;
 mod laws;
 mod pairs;
 mod pieces;
@@ -16,6 +17,7 @@ pub mod tags;
 mod writing;
 
 pub use image::write_image;
+pub use kept::{ProgramBytes, read_kept};
 pub use laws::{one_image, one_spelling, stream_goes_on, value_or_fault};
 pub use pairs::PAIR;
 pub use pieces::read_stream;

@@ -1,6 +1,7 @@
 //! Program files.
 
-ghost use Rattle.capture_file.specs.Programs.{Gives, HasWords, Reads, address_fault, based_field, base_field, base_fault};
+ghost use Rattle.capture_file.specs.Programs.{Gives, HasWords, IsPlaced, Reads, address_fault, based_field, base_field, base_fault};
+ghost use Rattle.capture_file.specs.Programs.{behind_field};
 ghost use Rattle.capture_file.specs.Programs.{chunk_count_fault, chunk_count_field};
 ghost use Rattle.capture_file.specs.Programs.{chunk_field, chunks_field, cut, entry_fault, entry_field, fill_fault, fill_field};
 ghost use Rattle.capture_file.specs.Programs.{first_words_field, form_field, is_length, judged, layout_of, length_fault};
@@ -114,16 +115,16 @@ impl<T: Drop> From<AllocFailed<T>> for ProgramError {
 
 /// What is left of a file, and the size of the whole file.
 #[derive(Clone, Copy)]
-struct Rest<'a> {
-    size: usize,
-    bytes: &'a [u8],
+pub(super) struct Rest<'a> {
+    pub(super) size: usize,
+    pub(super) bytes: &'a [u8],
 }
 
 /// The spans of a program, and the address at which its path begins.
 #[derive(Drop)]
-struct Placed {
-    start: u32,
-    spans: Spans,
+pub(super) struct Placed {
+    pub(super) start: u32,
+    pub(super) spans: Spans,
 }
 
 /// From where on a span may begin, and how many words the spans before it have.
@@ -261,14 +262,16 @@ fn read_numbers(bytes: &[u8], numbers: &mut [u32])
     }
 }
 
-// The words in some bytes, read a group at a time.
-fn words_of(alloc: Global, count: u32, bytes: &[u8]) -> Result<Vec<u32>, ProgramError>
+// Appends the words in some bytes, read a group at a time.
+pub(super) fn append_words(
+    words: &mut Vec<u32>,
+    count: usize,
+    bytes: &[u8],
+) -> Result<(), AllocError>
     requires { 4 * count ≤ length bytes.now }
-    ensures value { Gives (λ v. v.items) result (Ok (words_in count bytes.now)) }
-    ensures len { IfOk result (λ v. length v.items ≡ count) }
+    ensures value { OnOk result (words.new.items ≡ words.old.items ++ words_in count bytes.now) }
+    ensures len { OnOk result (length words.new.items ≡ length words.old.items + count) }
 {
-    let count = count as usize;
-    let mut words = Vec::with_capacity(alloc, count)?;
     let mut group = [0; GROUP];
     let mut at = 0;
     while at < count {
@@ -277,6 +280,18 @@ fn words_of(alloc: Global, count: u32, bytes: &[u8]) -> Result<Vec<u32>, Program
         words.extend_from_slice(&group[..few])?;
         at += few;
     }
+    Ok(())
+}
+
+// The words in some bytes.
+fn words_of(alloc: Global, count: u32, bytes: &[u8]) -> Result<Vec<u32>, ProgramError>
+    requires { 4 * count ≤ length bytes.now }
+    ensures value { Gives (λ v. v.items) result (Ok (words_in count bytes.now)) }
+    ensures len { IfOk result (λ v. length v.items ≡ count) }
+{
+    let count = count as usize;
+    let mut words = Vec::with_capacity(alloc, count)?;
+    append_words(&mut words, count, bytes)?;
     Ok(words)
 }
 
@@ -461,7 +476,7 @@ impl<'a> Rest<'a> {
     }
 
     #[tactic(auto, unfolding(crate::specs::Programs::form_field))]
-    fn form(self) -> Result<(ProgramForm, Rest<'a>), FileFault>
+    pub(super) fn form(self) -> Result<(ProgramForm, Rest<'a>), FileFault>
         requires { length self.bytes.now ≤ self.size }
         ensures value { Reads (λ x. (x.0, x.1.bytes.now)) result (form_field self.entry.size self.entry.bytes.now) }
         ensures rest { IfOk result (λ x. (x.1.size ≡ self.entry.size) × (length x.1.bytes.now ≤ length self.entry.bytes.now)) }
@@ -476,7 +491,7 @@ impl<'a> Rest<'a> {
     }
 
     #[tactic(auto, unfolding(crate::specs::Programs::base_field))]
-    fn base(self) -> Result<(u32, Rest<'a>), FileFault>
+    pub(super) fn base(self) -> Result<(u32, Rest<'a>), FileFault>
         requires { length self.bytes.now ≤ self.size }
         ensures value { Reads (λ x. (x.0, x.1.bytes.now)) result (base_field self.entry.size self.entry.bytes.now) }
         ensures rest { IfOk result (λ x. (x.1.size ≡ self.entry.size) × (length x.1.bytes.now ≤ length self.entry.bytes.now)) }
@@ -488,7 +503,7 @@ impl<'a> Rest<'a> {
     }
 
     #[tactic(auto, unfolding(crate::specs::Programs::word_count_field))]
-    fn word_count(self, base: u32) -> Result<(u32, Rest<'a>), FileFault>
+    pub(super) fn word_count(self, base: u32) -> Result<(u32, Rest<'a>), FileFault>
         requires { length self.bytes.now ≤ self.size }
         ensures value { Reads (λ x. (x.0, x.1.bytes.now)) result (word_count_field self.entry.size base self.entry.bytes.now) }
         ensures rest { IfOk result (λ x. (x.1.size ≡ self.entry.size) × (length x.1.bytes.now ≤ length self.entry.bytes.now)) }
@@ -796,6 +811,27 @@ fn grants_of(alloc: Global, chunks: &[(u32, u32)]) -> Result<PageSet, ProgramErr
     }
 }
 
+// The program of a file whose words were read, by what is behind them.
+#[tactic(auto, unfolding(crate::specs::Programs::behind_field))]
+pub(super) fn read_behind(
+    alloc: Global,
+    form: ProgramForm,
+    placed: Placed,
+    rest: Rest<'_>,
+) -> Result<ProgramFile, ProgramError>
+    requires inside { length rest.bytes.now ≤ rest.size }
+    requires placed { IsPlaced form (without_grants placed.start placed.spans) rest.size rest.bytes.now }
+    ensures { Gives (λ x. x) result
+        (behind_field form rest.entry.size (without_grants placed.start placed.spans) rest.entry.bytes.now) }
+{
+    let (count, rest) = rest.chunk_count()?;
+    let layout = layout_of(form);
+    let (chunks, rest) = read_chunks(alloc, layout, &placed, count, rest.size, rest.bytes)?;
+    let fill = rest.fill(form, &chunks)?;
+    let grants = grants_of(alloc, &chunks)?;
+    Ok(placed.file(grants, fill))
+}
+
 /// The program that a file holds, or the first field of the file that is cut or at fault (this project's own formats).
 /// A file begins with `BRP1` or `BRP2` where the words are one after another from the entry on, or where there are
 /// none: `BRP1` where all chunks are pages. The fields are then the base, the number of words and the words, the number
@@ -813,10 +849,5 @@ pub fn read_program(alloc: Global, bytes: &[u8]) -> Result<ProgramFile, ProgramE
     };
     let (form, rest) = file.form()?;
     let (placed, rest) = rest.placed(alloc, form)?;
-    let (count, rest) = rest.chunk_count()?;
-    let layout = layout_of(form);
-    let (chunks, rest) = read_chunks(alloc, layout, &placed, count, rest.size, rest.bytes)?;
-    let fill = rest.fill(form, &chunks)?;
-    let grants = grants_of(alloc, &chunks)?;
-    Ok(placed.file(grants, fill))
+    read_behind(alloc, form, placed, rest)
 }

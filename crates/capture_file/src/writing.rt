@@ -8,13 +8,14 @@ ghost use Rattle.capture_file.specs.Programs.{chunk_in, chunk_numbers, form_for,
 ghost use Rattle.capture_file.specs.Programs.{placed_spelled, span_spelled, spanned_spelled, spelled, spelled_as};
 ghost use Rattle.page_table.specs.Grants.{chunk_at, is_page, max_chunks};
 ghost use Rattle.std.specs.List.{flat_map, list_all};
-ghost use Rattle.std.specs.Prelude.{◌≡◌, ◌+◌, ◌*◌, ◌≤◌, ◌++◌, List, ℕ, [], drop, length, map, take, IsTrue};
+ghost use Rattle.std.specs.Prelude.{◌≡◌, ◌+◌, ◌*◌, ◌≤◌, ◌++◌, List, ℕ, [], drop, length, map, take, IsTrue, OnOk};
 
 use super::program::{Layout, ProgramForm, are_pages, layout_of};
 use byteorder::{ByteOrder, LittleEndian};
 use capture_desk::{Desk, Failed, put};
 use page_table::PageSet;
 use risc_verify::{Program, Spans};
+use std::alloc::AllocError;
 
 // How many bytes are put at once where there are few, and where there are many.
 const FEW: usize = 4_096;
@@ -43,6 +44,26 @@ fn spell(numbers: &[u32], out: &mut [u8])
     for (i, number) in numbers.iter().enumerate() {
         spell_one(*number, out, 4 * i);
     }
+}
+
+// Appends a number to some bytes, four bytes with the lowest first.
+fn append_number(bytes: &mut Vec<u8>, number: u32) -> Result<(), AllocError>
+    ensures { OnOk result (bytes.new.items ≡ bytes.old.items ++ little_bytes 4 number) }
+{
+    let mut field = [0; 4];
+    spell_one(number, &mut field, 0);
+    bytes.extend_from_slice(&field)?;
+    Ok(())
+}
+
+// Appends numbers to some bytes, four bytes each with the lowest first.
+pub(super) fn append_numbers(bytes: &mut Vec<u8>, numbers: &[u32]) -> Result<(), AllocError>
+    ensures { OnOk result (bytes.new.items ≡ bytes.old.items ++ numbers_spelled numbers.now) }
+{
+    for number in numbers {
+        append_number(bytes, *number)?;
+    }
+    Ok(())
 }
 
 // Appends numbers to the open output, as many at once as a buffer holds.
