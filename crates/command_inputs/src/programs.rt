@@ -1,17 +1,17 @@
 //! A program file, read and checked.
 
-ghost use Rattle.std.specs.Prelude.{◌≡◌, ◌<◌, [], ◌∷◌, IfErr, IfOk, Ok};
+ghost use Rattle.std.specs.Prelude.{◌≡◌, ◌+◌, ◌<◌, [], ◌∷◌, take, IfErr, IfOk, Ok};
 ghost use Rattle.capture_desk.specs.Desks.{IsAllowed};
 ghost use Rattle.capture_file.specs.Programs.{program_of};
-ghost use Rattle.command_steps.specs.Inputs.{OfInput};
+ghost use Rattle.command_steps.specs.Inputs.{OfInput, a_raw};
 ghost use Rattle.command_steps.specs.Reading.{Takes};
 ghost use Rattle.machine_model.specs.Paths.{IsSound};
-ghost use Rattle.command_inputs.specs.Programs.{Accepts, IsRefused, Misreads, a_program, a_sound_program};
+ghost use Rattle.command_inputs.specs.Programs.{Accepts, IsRefused, Misreads, a_program, a_sound_program, longest_program};
 ghost use Rattle.risc_verify.specs.Verdicts.{Refuses};
 
 use capture_desk::Desk;
-use capture_file::{Input, ProgramError, ProgramFile, read_program};
-use command_steps::read_whole;
+use capture_file::{Input, ProgramBytes, ProgramError, ProgramFile, read_kept};
+use command_steps::{Keeps, read_pieces};
 use command_texts::Refusal;
 use risc_verify::{Accepted, Program, Steps, Why, verify};
 use std::alloc::{AllocError, Global};
@@ -30,12 +30,40 @@ pub struct Loaded {
     pub fill: u8,
 }
 
-/// Reads the bytes of a program file.
-fn parse(alloc: Global, bytes: &[u8]) -> Result<ProgramFile, Refusal>
-    ensures reads { IfOk result (λ file. program_of bytes.now ≡ Ok file) }
-    ensures misreads { IfErr result (λ refusal. Misreads (program_of bytes.now) refusal) }
+// The bytes of a program file of which pieces are read.
+#[derive(Drop)]
+struct Pieces {
+    file: ProgramBytes,
+}
+
+impl Keeps for Pieces {
+    ghost kept = { λ pieces. pieces.file };
+
+    fn keep(&mut self, _alloc: Global, piece: &[u8]) -> Result<(), AllocError> {
+        self.file.push(piece)
+    }
+}
+
+// Reads the bytes of a program file, up to one byte beyond the longest.
+fn read_bytes<D: Desk>(alloc: Global, name: &str, desk: &mut D) -> Result<ProgramBytes, Refusal>
+    requires { IsAllowed name.now (D.seen desk.old).told.may_open }
+    ensures bytes { IfOk result
+        (λ file. OfInput name.now (D.seen desk.old).told.inputs (λ content. file ≡ take (longest_program + 1) content)) }
+    ensures takes { Takes (a_raw name.now longest_program ∷ []) result (D.seen desk.old) (D.seen desk.new) }
 {
-    match read_program(alloc, bytes) {
+    let mut pieces = Pieces {
+        file: ProgramBytes::new(alloc),
+    };
+    read_pieces(alloc, name, LONGEST_PROGRAM, desk, &mut pieces)?;
+    Ok(pieces.file)
+}
+
+/// Reads the bytes of a program file.
+fn parse(alloc: Global, file: ProgramBytes) -> Result<ProgramFile, Refusal>
+    ensures reads { IfOk result (λ found. program_of file ≡ Ok found) }
+    ensures misreads { IfErr result (λ refusal. Misreads (program_of file) refusal) }
+{
+    match read_kept(alloc, file) {
         Ok(file) => Ok(file),
         Err(ProgramError::File(fault)) => Err(Refusal::Malformed(Input::Program, fault)),
         Err(ProgramError::Memory) => Err(Refusal::NoMemory),
@@ -48,8 +76,8 @@ pub fn read_file<D: Desk>(alloc: Global, name: &str, desk: &mut D) -> Result<Pro
     ensures file { IfOk result (λ file. OfInput name.now (D.seen desk.old).told.inputs (λ bytes. program_of bytes ≡ Ok file)) }
     ensures takes { Takes (a_program name.now ∷ []) result (D.seen desk.old) (D.seen desk.new) }
 {
-    let bytes = read_whole(alloc, name, LONGEST_PROGRAM, desk)?;
-    parse(alloc, &bytes)
+    let file = read_bytes(alloc, name, desk)?;
+    parse(alloc, file)
 }
 
 /// Verifies a program. The verifier's steps are counted in the ledger of `blank`.

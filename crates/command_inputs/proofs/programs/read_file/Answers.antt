@@ -1,5 +1,5 @@
 -- What is read up to one byte beyond the longest file shows what the whole file is.
-use Rattle.std.proofs.Common.{◌≡◌, ◌+◌, ◌∙◌, List, ℕ, take, Result, Ok, Err, IfErr, IfOk, ap, sym, subst, refl}
+use Rattle.std.proofs.Common.{◌≡◌, ◌+◌, ◌∙◌, List, ℕ, take, Result, Ok, Err, ap, sym, refl}
 use Rattle.std.proofs.lemmas.Result.{IfErr-weaker, IfOk-weaker}
 use Rattle.capture_file.specs.declared.FileFault.{FileFault}
 use Rattle.capture_file.specs.declared.Input.TheVariants.{Program}
@@ -30,37 +30,37 @@ module _ (name : List ℕ) (old new : Seen) (bytes : List ℕ)
   misread ReadFault h = absurd h
   misread refusal h = h
 
-pub returns-in_err-bytes-clause-takes : goal.returns-in_err-bytes-clause-takes
-returns-in_err-bytes-clause-takes g c =
+pub returns-in_err-file-clause-takes : goal.returns-in_err-file-clause-takes
+returns-in_err-file-clause-takes g c =
     let name = c.args.name.now in
     let old = g.D.Desk.seen c.args.desk.now in
-    let new = g.D.Desk.seen c.read_whole.new.desk in
-    let refusal = c.in_err-bytes.field-0.0 in
+    let new = g.D.Desk.seen c.read_bytes.new.desk in
+    let refusal = c.in_err-file.field-0.0 in
     not_judged name (raw_files longest_program) program_files c.from_residual.result refusal old new c.from_residual.ensures.1
-    (raw_stops IsBadFile longest_program name refusal old new) c.in_err-bytes.ensures.takes
+    (raw_stops IsBadFile longest_program name refusal old new) c.in_err-file.ensures.takes
 
 pub returns-clause-file : goal.returns-clause-file
 returns-clause-file g c =
     let name = c.args.name.now in
     let old = g.D.Desk.seen c.args.desk.now in
-    let bytes = c.in_ok-bytes.bytes.items in
+    let bytes = c.in_ok-file.file in
     let r = c.parse.result in
     IfOk-weaker r (λ file. program_of bytes ≡ Ok file) (λ file. OfInput name old.told.inputs (λ content. program_of content ≡ Ok file))
-    (λ file. whole_found name old old bytes c.in_ok-bytes.ensures.bytes (Ok file))
-    (subst (λ bytes. IfOk r (λ file. program_of bytes ≡ Ok file)) c.deref.ensures.value c.parse.ensures.reads)
+    (λ file. whole_found name old old bytes c.in_ok-file.ensures.bytes (Ok file))
+    c.parse.ensures.reads
 
 pub returns-clause-takes : goal.returns-clause-takes
 returns-clause-takes g c =
     let name = c.args.name.now in
     let old = g.D.Desk.seen c.args.desk.now in
-    let new = g.D.Desk.seen c.read_whole.new.desk in
-    let bytes = c.in_ok-bytes.bytes.items in
-    let read = c.in_ok-bytes.ensures.bytes in
+    let new = g.D.Desk.seen c.read_bytes.new.desk in
+    let bytes = c.in_ok-file.file in
+    let read = c.in_ok-file.ensures.bytes in
     let r = c.parse.result in
     judged name (raw_files longest_program) program_files refl r old new
     (IfOk-weaker r (λ file. program_of bytes ≡ Ok file) (λ _. OfInput name old.told.inputs HoldsProgram)
     (λ file h. OfInput-map name old.told.inputs (λ content. program_of content ≡ Ok file) HoldsProgram (λ content e. (file, e))
     (whole_found name old new bytes read (Ok file) h))
-    (subst (λ bytes. IfOk r (λ file. program_of bytes ≡ Ok file)) c.deref.ensures.value c.parse.ensures.reads))
+    c.parse.ensures.reads)
     (IfErr-weaker r (Misreads (program_of bytes)) (λ refusal. StopsAt IsBadFile name refusal old new) (misread name old new bytes read)
-    (subst (λ bytes. IfErr r (Misreads (program_of bytes))) c.deref.ensures.value c.parse.ensures.misreads)) c.in_ok-bytes.ensures.takes
+    c.parse.ensures.misreads) c.in_ok-file.ensures.takes
