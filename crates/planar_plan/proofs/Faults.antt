@@ -11,11 +11,11 @@ use Rattle.capture_desc.specs.declared.desc.Desc.{Desc}
 use Rattle.capture_desc.specs.WellFormed.{IsWellFormed}
 use Rattle.picture_model.specs.declared.BuildFault.{BuildFault}
 use Rattle.picture_model.specs.Described.{highest_end, memory_from, memory_of, taken}
-use Rattle.picture_model.specs.Geometry.{Check, first_after, first_unaligned, frame_fault, memory_faults, overlap, page_faults}
-use Rattle.picture_model.specs.Geometry.{picture_faults, size_faults, too_few, vbi_range}
+use Rattle.picture_model.specs.Geometry.{Check, first_after, first_unaligned, frame_fault, memory_faults, page_faults, picture_faults}
+use Rattle.picture_model.specs.Geometry.{size_faults, too_few}
 use Rattle.planar_plan.specs.declared.judge.BuildError.{BuildError}
 use Rattle.planar_plan.specs.declared.judge.BuildError.TheVariants.{Bad, Memory}
-use Rattle.planar_plan.specs.Frames.{HasScatter, IsFramed, Judges, taken_memory}
+use Rattle.planar_plan.specs.Frames.{HasScatter, IsFramed, Judges, area_faults, taken_memory}
 
 -- the first of some faults
 
@@ -44,20 +44,11 @@ one_alone check d = last_alone (check d) d
 
 module _ (d : Desc) where
   pub at_sizes : (fault : BuildFault) → first_after None size_faults d ≡ Some fault → first_after None picture_faults d ≡ Some fault
-  at_sizes = some_front size_faults (overlap ∷ vbi_range ∷ []) d
+  at_sizes = some_front size_faults area_faults d
 
-  pub at_overlap : (fault : BuildFault) → first_after None size_faults d ≡ None → overlap d ≡ Some fault →
-      first_after None picture_faults d ≡ Some fault
-  at_overlap fault sizes is =
-      none_front size_faults (overlap ∷ vbi_range ∷ []) d sizes
-      ∙ some_front (overlap ∷ []) (vbi_range ∷ []) d fault (one_alone overlap d ∙ is)
-
-  pub at_vbi : (found : Option BuildFault) → first_after None size_faults d ≡ None → overlap d ≡ None → vbi_range d ≡ found →
+  pub at_areas : (found : Option BuildFault) → first_after None size_faults d ≡ None → first_after None area_faults d ≡ found →
       first_after None picture_faults d ≡ found
-  at_vbi found sizes apart is =
-      none_front size_faults (overlap ∷ vbi_range ∷ []) d sizes
-      ∙ none_front (overlap ∷ []) (vbi_range ∷ []) d (one_alone overlap d ∙ apart)
-      ∙ one_alone vbi_range d ∙ is
+  at_areas found sizes is = none_front size_faults area_faults d sizes ∙ is
 
   pub at_picture : (fault : BuildFault) → first_after None picture_faults d ≡ Some fault → frame_fault d ≡ Some fault
   at_picture = some_front picture_faults (page_faults ++ memory_faults) d

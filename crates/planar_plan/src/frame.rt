@@ -13,9 +13,10 @@ ghost use Rattle.planar_plan.specs.Lines.{AreSpansOf, AreWithin, CountsFit};
 ghost use Rattle.planar_plan.specs.Stretches.{FitsInOne, IsWhole, pieces_in};
 
 use crate::cut::{Pieces, RowSpans, cut_whole, spans_in_grains};
-use crate::judge::{BuildError, highest_end, overlap, size_faults, vbi_range};
+use crate::judge::{BuildError, area_faults, highest_end, size_faults};
 use crate::lines::{row_line, skipped_line, skipped_vbi_line, vbi_line};
 use crate::memory::{grants, page_faults, scatter};
+use crate::offsets::PlaneOffsets;
 use crate::places::taken;
 use crate::stretch::WholeRow;
 use capture_desc::Desc;
@@ -25,23 +26,24 @@ use pixel_layout::{Format, Parity};
 use std::alloc::{AllocError, Global};
 use std::marker::Model;
 
-/// A description whose geometry is right, with the scatter list of its memory. Contracts see the
-/// description.
+/// A description whose geometry is right, with the scatter list of its memory and where its planes
+/// begin. Contracts see the description.
 #[derive(Drop)]
 pub struct Frame {
     desc: Desc,
     scatter: Scatter,
+    offsets: PlaneOffsets,
 }
 
 impl Model for Frame {
     ghost use Rattle.capture_desc.specs.declared.desc.Desc.{Desc};
-    ghost use Rattle.planar_plan.specs.Frames.{HasScatter};
+    ghost use Rattle.planar_plan.specs.Frames.{IsKept};
 
     ghost Value = { Desc };
 
     ghost view = { λ frame. frame.desc };
 
-    ghost invariant = { λ frame. HasScatter frame.desc frame.scatter };
+    ghost invariant = { λ frame. IsKept frame.desc frame.scatter frame.offsets };
 }
 
 // Checks the picture and its VBI lines, and answers their highest end.
@@ -52,8 +54,7 @@ fn end_of(alloc: Global, desc: &Desc) -> Result<u64, BuildError>
 {
     size_faults(desc)?;
     let taken = taken(alloc, desc)?;
-    overlap(&taken)?;
-    vbi_range(desc)?;
+    area_faults(desc, &taken)?;
     Ok(highest_end(&taken) as u64)
 }
 
@@ -80,7 +81,12 @@ impl Frame {
         ensures framed { IfOk result IsFramed }
     {
         let scatter = scatter_of(alloc, &desc)?;
-        Ok(Frame { desc, scatter })
+        let offsets = PlaneOffsets::of(&desc);
+        Ok(Frame {
+            desc,
+            scatter,
+            offsets,
+        })
     }
 
     /// The description.
@@ -168,7 +174,7 @@ impl Frame {
         ensures none { result ≡ None → FitsInOne (memory_of self.now) (row_strip self.now row) → ⊥ }
         ensures few { length (row_strip self.now row).spans ≤ 129 }
     {
-        let line = row_line(&self.desc, row);
+        let line = row_line(&self.desc, &self.offsets, row);
         WholeRow::of(&self.scatter, &line)
     }
 
@@ -180,7 +186,7 @@ impl Frame {
         ensures plan { IfOk result (λ _. pieces.new ≡ row_plan self.now row) }
         ensures counts { IfOk result (λ _. All CountsFit pieces.new) }
     {
-        let line = row_line(&self.desc, row);
+        let line = row_line(&self.desc, &self.offsets, row);
         pieces.cut_row(&self.scatter, &line, &spans.spans)
     }
 

@@ -3,11 +3,12 @@
 ghost use Rattle.std.specs.Prelude.{◌≡◌, ℕ, ◌+◌, ◌*◌, ◌%◌, ◌^◌, ◌<◌, ◌≤◌, ◌||◌, nat_lt, IfOk, None};
 ghost use Rattle.std.specs.List.{list_any};
 ghost use Rattle.std.specs.Result.{result_err};
-ghost use Rattle.picture_model.specs.Described.{highest_end, layout_of, offset, plane_row_bytes, planes, stride};
+ghost use Rattle.picture_model.specs.Described.{highest_end, layout_of, offset, plane_row_bytes, planes, stride, taken};
 ghost use Rattle.capture_desc.specs.WellFormed.{IsWellFormed};
 ghost use Rattle.picture_model.specs.Geometry.{first_after, height_range, max_height, max_vbi_lines, max_width, min_line_bytes, odd_height};
 ghost use Rattle.picture_model.specs.Geometry.{off_unit, overlaps, size_faults, some_overlap, stride_short, too_narrow};
 ghost use Rattle.picture_model.specs.Geometry.{vbi_range, when, width_off_unit, width_range};
+ghost use Rattle.planar_plan.specs.Frames.{area_faults};
 ghost use Rattle.planar_plan.specs.Sizes.{IsPlane, IsSized};
 ghost use Rattle.planar_plan.specs.declared.judge.BuildError.TheVariants.{Bad, Memory};
 
@@ -181,13 +182,13 @@ fn some_overlap(taken: &[Area]) -> bool
     }
 }
 
-pub(crate) fn overlap(taken: &[Area]) -> Result<(), BuildFault>
+fn overlap(taken: &[Area]) -> Result<(), BuildFault>
     ensures { result_err result ≡ when (some_overlap taken.now) BuildFault.Overlap }
 {
     refuse(some_overlap(taken), BuildFault::Overlap)
 }
 
-pub(crate) fn vbi_range(desc: &Desc) -> Result<(), BuildFault>
+fn vbi_range(desc: &Desc) -> Result<(), BuildFault>
     ensures few { IfOk result (λ _. desc.now.vbi_lines ≤ max_vbi_lines) }
     ensures fault { result_err result ≡ vbi_range desc.now }
 {
@@ -197,6 +198,16 @@ pub(crate) fn vbi_range(desc: &Desc) -> Result<(), BuildFault>
         desc.vbi_lines > MAX_VBI_LINES || desc.vbi_lines > 0 && (bytes_out || overlap),
         BuildFault::VbiRange,
     )
+}
+
+// Checks the areas that the picture and its VBI lines take.
+pub(crate) fn area_faults(desc: &Desc, areas: &[Area]) -> Result<(), BuildFault>
+    requires { areas.now ≡ taken desc.now }
+    ensures fault { result_err result ≡ first_after None area_faults desc.now }
+    ensures few { IfOk result (λ _. desc.now.vbi_lines ≤ max_vbi_lines) }
+{
+    overlap(areas)?;
+    vbi_range(desc)
 }
 
 // The highest end of some areas, of which an empty one ends where it begins.

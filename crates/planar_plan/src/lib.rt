@@ -9,6 +9,7 @@ mod frame;
 mod judge;
 mod lines;
 mod memory;
+mod offsets;
 mod places;
 mod stretch;
 

@@ -7,11 +7,13 @@ ghost use Rattle.picture_model.specs.Geometry.{max_height};
 ghost use Rattle.picture_model.specs.Places.{plane_row, row_offset, vbi_line_offset};
 ghost use Rattle.picture_model.specs.Plans.{grain_bytes, kind_by, row_strip, row_track, skipped_strip, skipped_vbi_strip, vbi_strip};
 ghost use Rattle.pixel_layout.specs.Layouts.{layout};
+ghost use Rattle.planar_plan.specs.Frames.{AreOffsets};
 ghost use Rattle.planar_plan.specs.Lines.{bare, strip_of, track_of};
 ghost use Rattle.planar_plan.specs.Sizes.{IsPlane, IsSized};
 
 use crate::cut::{Line, PlaneTrack, grains_of, unit_bytes};
-use crate::places::{offset, stride, vbi_offset};
+use crate::offsets::PlaneOffsets;
+use crate::places::{stride, vbi_offset};
 use capture_desc::Desc;
 use picture_model::{PieceKind, chroma_row, vbi_stride};
 use pixel_layout::{Format, Parity};
@@ -45,29 +47,31 @@ fn plane_row(desc: &Desc, plane: u32, row: u32) -> Option<u32>
 
 // The offset of the first byte of a picture row on a plane.
 #[tactic(auto, using(crate::proofs::Bounds::products))]
-fn row_offset(desc: &Desc, plane: u32, row: u32) -> Option<u64>
+fn row_offset(desc: &Desc, offsets: &PlaneOffsets, plane: u32, row: u32) -> Option<u64>
     requires sized { IsSized desc.now }
+    requires offsets { AreOffsets desc.now offsets.now }
     requires row { row ≤ max_height }
     requires plane { (1 ≤ plane) × (plane ≤ 3) }
     ensures { result ≡ row_offset desc.now plane row }
 {
     match plane_row(desc, plane, row) {
         Some(kept) => {
-            Some(offset(desc, plane) + u64::from(kept) * u64::from(stride(desc, plane)))
+            Some(offsets.begin(plane) + u64::from(kept) * u64::from(stride(desc, plane)))
         }
         None => None,
     }
 }
 
-fn row_track(desc: &Desc, plane: u32, row: u32) -> PlaneTrack
+fn row_track(desc: &Desc, offsets: &PlaneOffsets, plane: u32, row: u32) -> PlaneTrack
     requires sized { IsSized desc.now }
+    requires offsets { AreOffsets desc.now offsets.now }
     requires row { row ≤ max_height }
     requires plane { (1 ≤ plane) × (plane ≤ 3) }
     ensures { track_of result ≡ row_track desc.now plane row }
 {
     PlaneTrack {
         size: grain_bytes(desc.format, plane),
-        start: row_offset(desc, plane, row),
+        start: row_offset(desc, offsets, plane, row),
     }
 }
 
@@ -84,17 +88,18 @@ fn row_kind(desc: &Desc, row: u32) -> PieceKind
 }
 
 // A row of the picture.
-pub(crate) fn row_line(desc: &Desc, row: u32) -> Line
+pub(crate) fn row_line(desc: &Desc, offsets: &PlaneOffsets, row: u32) -> Line
     requires sized { IsSized desc.now }
+    requires offsets { AreOffsets desc.now offsets.now }
     requires row { row ≤ max_height }
     ensures { strip_of result ≡ bare (row_strip desc.now row) }
 {
     Line {
         grains: grains_of(desc.format, desc.width),
         kind: row_kind(desc, row),
-        one: row_track(desc, 1, row),
-        two: row_track(desc, 2, row),
-        three: row_track(desc, 3, row),
+        one: row_track(desc, offsets, 1, row),
+        two: row_track(desc, offsets, 2, row),
+        three: row_track(desc, offsets, 3, row),
     }
 }
 

@@ -13,9 +13,9 @@ pub cut_row-requires-clause-line : goal.cut_row-requires-clause-line
 cut_row-requires-clause-line c =
     let d = c.self.inside.desc in
     let height = ap (λ (e : Desc). e.height) c.self.view_is in
-    let right = is_right d c.self.invariant.framed (subst IsDescription (sym c.self.view_is) c.requires.description).clips in
+    let right = is_right d c.self.invariant.scattered.framed (subst IsDescription (sym c.self.view_is) c.requires.description).clips in
     subst (λ (l : Strip). CanBeCut c.self.inside.scatter l) (sym c.row_line-line.ensures)
-    (row-CanBeCut d c.self.inside.scatter c.args.row right (omega arith) c.self.invariant.list c.self.invariant.scatter)
+    (row-CanBeCut d c.self.inside.scatter c.args.row right (omega arith) c.self.invariant.scattered.list c.self.invariant.scattered.scatter)
 
 -- the spans that were passed are those of the row
 spans_are : (d e : Desc) (row : ℕ) (slice items : List Span) (kept : SpansOfRows) → d ≡ e → slice ≡ items → kept.spans ≡ items →
@@ -26,7 +26,7 @@ spans_are d e row slice items kept same is view are =
 pub cut_row-requires-clause-grains : goal.cut_row-requires-clause-grains
 cut_row-requires-clause-grains c =
     let d = c.self.inside.desc in
-    let right = is_right d c.self.invariant.framed (subst IsDescription (sym c.self.view_is) c.requires.description).clips in
+    let right = is_right d c.self.invariant.scattered.framed (subst IsDescription (sym c.self.view_is) c.requires.description).clips in
     let grains = grains_of (layout_of d) d.width in
     let same : c.row_line-line.result.grains ≡ grains = ap (λ (l : Strip). l.grains) c.row_line-line.ensures in
     let within = row-AreWithin d c.args.row c.row_line-line.result.grains right (omega arith) in
@@ -40,7 +40,7 @@ returns-clause-plan c =
     let d = c.self.inside.desc in
     let row = c.args.row in
     let line = c.row_line-line.result in
-    let memory = ap (λ (s : ScatterList). s.chunks) c.self.invariant.scatter in
+    let memory = ap (λ (s : ScatterList). s.chunks) c.self.invariant.scattered.scatter in
     let spans =
     spans_are d c.args.self.now row c.deref.result.now c.spans.inside.spans.items c.args.spans.now c.self.view_is c.deref.ensures.value
     (ap (λ (k : SpansOfRows). k.spans) (sym c.spans.view_is)) c.requires.spans in

@@ -10,13 +10,13 @@ use Rattle.planar_plan.proofs.frame.Frame.plan_skip_line.Goals as goal
 pub cut_whole-requires : goal.cut_whole-requires
 cut_whole-requires c =
     subst (λ (l : Strip). CanBeCut c.self.inside.scatter l) (sym c.skipped_line-line.ensures)
-    (skipped-CanBeCut c.self.inside.desc c.self.inside.scatter c.self.invariant.list)
+    (skipped-CanBeCut c.self.inside.desc c.self.inside.scatter c.self.invariant.scattered.list)
 
 pub returns-clause-plan : goal.returns-clause-plan
 returns-clause-plan c =
     let d = c.self.inside.desc in
     let line = c.skipped_line-line.result in
-    let memory = ap (λ (s : ScatterList). s.chunks) c.self.invariant.scatter in
+    let memory = ap (λ (s : ScatterList). s.chunks) c.self.invariant.scattered.scatter in
     let spans : (span 0 line.grains true ∷ []) ≡ (skipped_strip d).spans =
     ap (λ (l : Strip). span 0 l.grains true ∷ []) c.skipped_line-line.ensures
     in

@@ -15,8 +15,8 @@ vbi_line-line-requires-clause-fits c =
     ap (λ (e : Desc). describes e.fields c.args.field) c.self.view_is ∙ c.requires.described in
     let lines = ap (λ (e : Desc). e.vbi_lines) c.self.view_is in
     let end = vbi_line_ends d c.args.field c.args.line is (omega arith) in
-    let small = list_small c.self.inside.scatter c.self.invariant.list in
-    let len : c.self.inside.scatter.len ≡ highest_end (taken d) = ap (λ (s : ScatterList). s.len) c.self.invariant.scatter in
+    let small = list_small c.self.inside.scatter c.self.invariant.scattered.list in
+    let len : c.self.inside.scatter.len ≡ highest_end (taken d) = ap (λ (s : ScatterList). s.len) c.self.invariant.scattered.scatter in
     omega arith
 
 pub cut_whole-requires : goal.cut_whole-requires
@@ -25,14 +25,15 @@ cut_whole-requires c =
     let is : describes d.fields c.args.field ≡ true =
     ap (λ (e : Desc). describes e.fields c.args.field) c.self.view_is ∙ c.requires.described in
     let lines = ap (λ (e : Desc). e.vbi_lines) c.self.view_is in
+    let kept = c.self.invariant.scattered in
     subst (λ (l : Strip). CanBeCut c.self.inside.scatter l) (sym c.vbi_line-line.ensures)
-    (vbi-CanBeCut d c.self.inside.scatter c.args.field c.args.line is (omega arith) c.self.invariant.list c.self.invariant.scatter)
+    (vbi-CanBeCut d c.self.inside.scatter c.args.field c.args.line is (omega arith) kept.list kept.scatter)
 
 pub returns-clause-plan : goal.returns-clause-plan
 returns-clause-plan c =
     let d = c.self.inside.desc in
     let line = c.vbi_line-line.result in
-    let memory = ap (λ (s : ScatterList). s.chunks) c.self.invariant.scatter in
+    let memory = ap (λ (s : ScatterList). s.chunks) c.self.invariant.scattered.scatter in
     let spans : (span 0 line.grains false ∷ []) ≡ (vbi_strip d c.args.field c.args.line).spans =
     ap (λ (l : Strip). span 0 l.grains false ∷ []) c.vbi_line-line.ensures
     in

@@ -12,7 +12,7 @@ use Rattle.planar_plan.proofs.frame.Frame.row_spans.Goals as goal
 pub spans_in_grains-requires : goal.spans_in_grains-requires
 spans_in_grains-requires c =
     let d = c.self.inside.desc in
-    let right = is_right d c.self.invariant.framed c.in_ok-spans.ensures.few in
+    let right = is_right d c.self.invariant.scattered.framed c.in_ok-spans.ensures.few in
     subst (AreWithin 1024) (sym c.as_slice.ensures)
     (runs_within
     (clipped_at d.clip c.args.row c.unit_pixels.result) d.width 1024 0 c.in_ok-spans.spans right.width.1 c.in_ok-spans.ensures.spans)
@@ -35,4 +35,4 @@ returns-clause-spans c = λ row from below.
 
 pub returns-clause-description : goal.returns-clause-description
 returns-clause-description c =
-    subst IsDescription c.self.view_is (described c.self.inside.desc c.self.invariant.framed c.in_ok-spans.ensures.few)
+    subst IsDescription c.self.view_is (described c.self.inside.desc c.self.invariant.scattered.framed c.in_ok-spans.ensures.few)

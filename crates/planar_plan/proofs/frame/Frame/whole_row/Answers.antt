@@ -15,14 +15,14 @@ pub of-requires : goal.of-requires
 of-requires c =
     let d = c.self.inside.desc in
     let height = ap (λ (e : Desc). e.height) c.self.view_is in
-    let right = is_right d c.self.invariant.framed (subst IsDescription (sym c.self.view_is) c.requires.description).clips in
+    let right = is_right d c.self.invariant.scattered.framed (subst IsDescription (sym c.self.view_is) c.requires.description).clips in
     subst (λ (l : Strip). CanBeCut c.self.inside.scatter l) (sym c.row_line-line.ensures)
-    (row-CanBeCut d c.self.inside.scatter c.args.row right (omega arith) c.self.invariant.list c.self.invariant.scatter)
+    (row-CanBeCut d c.self.inside.scatter c.args.row right (omega arith) c.self.invariant.scattered.list c.self.invariant.scattered.scatter)
 
 pub returns-clause-whole : goal.returns-clause-whole
 returns-clause-whole c =
     let d = c.self.inside.desc in
-    let memory = ap (λ (s : ScatterList). s.chunks) c.self.invariant.scatter in
+    let memory = ap (λ (s : ScatterList). s.chunks) c.self.invariant.scattered.scatter in
     IfSome_then c.of.result c.of.ensures.whole
     (λ w is.
     subst (λ (e : Desc). IsWhole (memory_of e) (row_strip e c.args.row) w) c.self.view_is
@@ -34,7 +34,7 @@ returns-clause-within c =
     let d = c.args.self.now in
     IfSome_then c.of.result (returns-clause-whole c)
     (λ w is. let grains = is.grains in row-AreWithin d c.args.row w.line.grains
-    (again_right c.self.inside.desc d c.self.view_is c.self.invariant.framed c.requires.description) (omega arith))
+    (again_right c.self.inside.desc d c.self.view_is c.self.invariant.scattered.framed c.requires.description) (omega arith))
 
 pub returns-clause-plan : goal.returns-clause-plan
 returns-clause-plan c =
@@ -42,10 +42,10 @@ returns-clause-plan c =
     IfSome_then c.of.result (returns-clause-whole c)
     (λ w is. whole-pieces (memory_of d) (row_strip d c.args.row) w (row_strip d c.args.row).spans is
     (row-AreWithin d c.args.row (row_strip d c.args.row).grains
-    (again_right c.self.inside.desc d c.self.view_is c.self.invariant.framed c.requires.description) (omega arith)))
+    (again_right c.self.inside.desc d c.self.view_is c.self.invariant.scattered.framed c.requires.description) (omega arith)))
 
 pub returns-clause-few : goal.returns-clause-few
 returns-clause-few c =
     let d = c.args.self.now in
     row_spans_few d c.args.row c.requires.description
-    (again_right c.self.inside.desc d c.self.view_is c.self.invariant.framed c.requires.description)
+    (again_right c.self.inside.desc d c.self.view_is c.self.invariant.scattered.framed c.requires.description)
