@@ -16,7 +16,6 @@ pub mod SpansRead
 pub mod Spelled
 pub mod Unspelled
 pub mod KeptRead
-pub mod Feeding
 pub mod Imaged
 pub mod Growing
 pub mod Faults

@@ -1,7 +1,7 @@
 -- Bytes that are no pair of records.
 use Rattle.std.proofs.Common.{◌≡◌, ℕ, ◌+◌, ◌*◌, ◌<◌, ◌≤◌, inl, inr, Bool, true, false, List, [], ◌∷◌, length, drop, get_or}
 use Rattle.std.proofs.Common.{Option, Some, None, refl, sym, ap, subst, arith, if◌then◌else◌, length-drop}
-use Rattle.std.specs.Prelude.{nat_lt, nat_le, min, ◌/◌, ◌==◌}
+use Rattle.std.specs.Prelude.{IfNone, nat_lt, nat_le, min, ◌/◌, ◌==◌}
 use Rattle.std.proofs.lemmas.Bool.{eqb-true, ltb-false, ltb-true}
 use Rattle.byteorder.specs.Endian.{little_number}
 use Rattle.risc_word.specs.declared.Code.{Code}
@@ -188,6 +188,17 @@ same_number first second o is also = cc
 -- too few bytes are none
 pub no_pair_short : (queue : Queue) (before : ℕ) (bytes : List ℕ) → length bytes < 11 → NoPair queue before bytes
 no_pair_short queue before bytes short dword count is = let long = is.whole in omega (arith, long, short)
+
+-- what holds in any case holds where there is none
+pub in_any_case : {A : Type 0} {P : Type 0} (o : Option A) → P → IfNone o P
+in_any_case None holds = holds
+in_any_case (Some found) holds = tt
+
+-- where there is none of any queue, there is none of one
+pub none_of_queue : {A : Type 0} (queue : Queue) (before : ℕ) (bytes : List ℕ) (o : Option A) →
+    IfNone o ((any : Queue) → NoPair any before bytes) → IfNone o (NoPair queue before bytes)
+none_of_queue queue before bytes None none = none queue
+none_of_queue queue before bytes (Some found) none = tt
 
 -- behind so many pairs as have room, or as the bytes may hold, there is no other or no room
 pub all_taken : (queue : Queue) (before count most room : ℕ) (bytes : List ℕ) → most ≡ min (room / 4) (length bytes / 11) → most ≤ count →

@@ -104,6 +104,11 @@ copied_more queue before count turns next_turns bytes dwords now pairs dword mor
       copied = ap (λ n. take n now) place ∙ made ∙ ap (λ zs. zs ++ lane_bytes dword) h.copied ∙ sym (dwords_more pairs dword more);
     }
 
+-- one of them is copied by itself
+pub one_copied : (queue : Queue) (before : ℕ) (bytes : List ℕ) (dword turns : ℕ) → IsPair queue before bytes dword turns →
+    AreCopied queue before 1 turns bytes (lane_bytes dword) ((dword, turns) ∷ [])
+one_copied queue before bytes dword turns is = record { there = (is, tt); many = refl; turned = omega arith; copied = refl }
+
 -- ---- a reader takes them
 
 -- between two records

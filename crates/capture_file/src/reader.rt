@@ -3,15 +3,17 @@
 ghost use Rattle.capture_file.specs.Readers.{AnswerFits, Closed, Failed, Opening, Records, Counts, IsReader, PlacedAt, Stays, Uses};
 ghost use Rattle.capture_file.specs.Readers.{after_answer, behind_word, closed_by, closed_taken, ending_in};
 ghost use Rattle.capture_file.specs.Readers.{fresh, record_taken, resumed, room, taken, taking, word_taken, Takes, front_record};
-ghost use Rattle.capture_file.specs.Pairs.{AreAll, IsBetween, TakesPairs};
+ghost use Rattle.capture_file.specs.Pairs.{AreAll, IsBetween, NoPair, TakesPairs};
 ghost use Rattle.capture_file.specs.Records.{FoundFits, HasFour, Passes, Spans, StepFits, Sums, push_in, turns_in};
 ghost use Rattle.capture_file.specs.declared.FileFault.{FileFault};
 ghost use Rattle.capture_file.specs.declared.records.Found.TheVariants.{Cut};
 ghost use Rattle.capture_file.specs.Streams.{Bad, fault_at, most_turns, number_at, reading, record_at, stream_of, turns_of};
 ghost use Rattle.std.specs.Prelude.{◌≡◌, ◌≤◌, ◌<◌, ◌+◌, ◌-◌, ◌*◌, ◌^◌, ◌++◌, List, ℕ, [], None, IfSome, IfNone, take, drop, length, true};
-ghost use Rattle.std.specs.Prelude.{false};
+ghost use Rattle.std.specs.Prelude.{false, ◌∷◌};
+ghost use Rattle.fifo_model.specs.Queues.{lane_bytes};
+ghost use Rattle.machine_model.specs.PlainEntries.{plain_entry};
 
-use super::pairs::copy_pairs;
+use super::pairs::{any_pair_at, copy_pairs};
 use super::records::{Form, Found, MOST_TURNS, find, find_push, find_turns, form_named, number};
 use super::{FileFault, FileKind, Step};
 use fifo_model::{Entry, Queue};
@@ -470,6 +472,29 @@ impl StepReader {
             return (count, turns);
         }
         (0, 0)
+    }
+
+    /// Takes one pair of records, a data push to whichever queue with the status PixelsValid and one turn or more behind it, that lies
+    /// whole at the front of the piece, of 11 bytes: the queue, the entry and its turns. None where a record is under way, or where the
+    /// limit is within the piece.
+    #[inline(always)]
+    pub fn take_pair(&mut self, piece: &[u8]) -> Option<(Queue, Entry, u32)>
+        ensures taken { IfSome result (λ pair. TakesPairs pair.0 1 pair.2 (lane_bytes pair.1.dword) self.old piece.now self.new
+            ((pair.1.dword, pair.2) ∷ [])) }
+        ensures plain { IfSome result (λ pair. pair.1 ≡ plain_entry pair.1.dword) }
+        ensures none { IfNone result (self.new ≡ self.old) }
+        ensures all { IfNone result (IsBetween self.old piece.now → (queue : Queue) → NoPair queue self.old.turns piece.now) }
+    {
+        let State::Between(_) = self.state else {
+            return None;
+        };
+        if piece.len() as u64 > self.room {
+            return None;
+        }
+        let (queue, entry, turns) = any_pair_at(MOST_TURNS - self.turns, piece)?;
+        self.room -= 11;
+        self.turns += turns;
+        Some((queue, entry, turns))
     }
 
     fn closing(&self) -> Result<(), FileFault>

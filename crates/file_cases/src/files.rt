@@ -6,7 +6,7 @@ ghost use Rattle.capture_desk.specs.Memory.{names_of};
 use capture_desk::{Desk, Failed, MemDesk, Octets};
 use capture_file::{
     FileFault, FileKind, Got, ProgramError, ProgramFile, Step, StepReader, read_program,
-    read_stream, write_image, write_program,
+    write_image, write_program,
 };
 use fifo_model::{Entry, Queue};
 use irq_status::HostWrite;
@@ -226,6 +226,48 @@ fn pairs_are_taken_off_a_piece(rt: HostRuntime) {
     assert!(rt; takes_pairs(&mut StepReader::new(20), Queue::One, 3, (0, 0), &[0; 12]));
 }
 
+// A pair for each queue, and a push without a turn.
+const MIXED: &[u8] =
+    b"\x03\0\x10\x11\x12\x13\x05\x02\0\0\0\x01\0\x20\x21\x22\x23\x05\x01\0\0\0\x02\0\x30\x31\x32\x33\x05\x04\0\0\0\x01\0\x40\x41\x42\x43\
+        \x05\0\0\0\0";
+
+fn takes_pair(reader: &mut StepReader, piece: &[u8], want: Option<(Queue, u32, u32)>) -> bool {
+    let pair = want.map(|(queue, dword, turns)| {
+        let entry = Entry {
+            status: Status::of(0),
+            dword,
+        };
+        (queue, entry, turns)
+    });
+    reader.take_pair(piece) == pair
+}
+
+#[test]
+fn pairs_of_several_queues_are_taken_one_by_one(rt: HostRuntime) {
+    let mut reader = StepReader::new(100);
+    assert!(rt; takes_pair(&mut reader, MIXED, None));
+    assert!(rt; takes(&mut reader, b"BFS1", (4, Got::More)));
+    assert!(rt; takes_pair(&mut reader, MIXED, Some((Queue::Three, 0x1312_1110, 2))));
+    assert!(rt;
+        takes_pair(
+            &mut reader,
+            &MIXED[11..],
+            Some((Queue::One, 0x2322_2120, 1))
+        )
+    );
+    assert!(rt; takes_pair(&mut reader, &MIXED[22..32], None));
+    assert!(rt;
+        takes_pair(
+            &mut reader,
+            &MIXED[22..],
+            Some((Queue::Two, 0x3332_3130, 4))
+        )
+    );
+    assert!(rt; takes_pair(&mut reader, &MIXED[33..], None));
+    // the limit is within the piece
+    assert!(rt; takes_pair(&mut StepReader::new(20), MIXED, None));
+}
+
 // The steps of a stream that comes byte by byte.
 fn read_by_bytes(
     alloc: Global,
@@ -233,11 +275,23 @@ fn read_by_bytes(
     limit: u64,
     bytes: &[u8],
 ) -> Result<Result<Vec<Step>, FileFault>, AllocError> {
-    let mut pieces = Vec::new(alloc);
-    for byte in bytes {
-        pieces.push(vec![in alloc; *byte]?)?;
+    let mut reader = if chained {
+        StepReader::chained(limit)
+    } else {
+        StepReader::new(limit)
+    };
+    let mut steps = Vec::new(alloc);
+    for at in 0..bytes.len() {
+        match reader.take(&bytes[at..=at]) {
+            (_, Got::Step(step)) => steps.push(step)?,
+            (_, Got::Bad(fault)) => return Ok(Err(fault)),
+            (_, Got::End | Got::More) => {}
+        }
     }
-    read_stream(alloc, chained, limit, &pieces)
+    match reader.close() {
+        Ok(()) => Ok(Ok(steps)),
+        Err(fault) => Ok(Err(fault)),
+    }
 }
 
 // Whether a stream of at most 100 bytes has these steps.

@@ -107,8 +107,24 @@ fn may_go_on(piece: &[u8], used: usize) -> bool
     used > PUSH && piece.get(used) == piece.first() && piece.get(used + PAIR) == piece.first()
 }
 
-/// Hands the pairs of records of a queue that are taken at once, behind so many bytes of a piece, to the player, and answers how many
-/// bytes they have. The bytes before them begin with a push to the queue.
+/// Hands pairs of records that lie whole at the front of a piece, pushes to whichever queue with turns behind them, to the player, one
+/// after the other, and answers how many bytes they have. So the DWORDs of a planar line come, which change the queue.
+#[inline(always)]
+fn hand_mixed<P: Player>(player: &mut P, reader: &mut StepReader, piece: &[u8]) -> usize
+    requires form { ReadsForm P.has_slots reader.old }
+    ensures form { ReadsForm P.has_slots reader.new }
+    ensures handed { HandedPart P.act result player.old reader.old piece.now player.new reader.new }
+{
+    let mut at = 0;
+    while let Some((queue, entry, turns)) = reader.take_pair(&piece[at..]) {
+        player.push_and_turns(queue, entry, turns);
+        at += PAIR;
+    }
+    at
+}
+
+/// Hands the pairs of records behind so many bytes of a piece to the player, and answers how many bytes they have. The bytes before them
+/// begin with a push to the queue. Pairs of this queue are taken at once, and others one by one.
 #[inline(always)]
 fn hand_behind<P: Player>(
     player: &mut P,
@@ -123,10 +139,13 @@ fn hand_behind<P: Player>(
     ensures form { ReadsForm P.has_slots reader.new }
     ensures handed { HandedPart P.act result player.old reader.old (drop used piece.now) player.new reader.new }
 {
-    if !may_go_on(piece, used) {
-        return 0;
+    if may_go_on(piece, used) {
+        hand_pairs(player, reader, queue, &piece[used..], dwords)
+    } else if used > PUSH {
+        hand_mixed(player, reader, &piece[used..])
+    } else {
+        0
     }
-    hand_pairs(player, reader, queue, &piece[used..], dwords)
 }
 
 /// Hands the data push, with the turns and the pairs behind it, or the turns that lie whole at the front of a piece to the player, and
