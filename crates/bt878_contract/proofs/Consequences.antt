@@ -47,8 +47,8 @@ use Rattle.bt878_contract.specs.Tasks.{RunMakes, RunOf, TellsRows, Traces, compi
 use Rattle.bt878_contract.specs.Tasks.{names_read, names_written, no_file, program_and_image, program_file, program_text, sources}
 use Rattle.bt878_contract.specs.Clauses.{AreTold, CreatesNone, IsAssembled, IsBadInput, IsCompiled, IsCut, IsInOrder, IsGenerated, IsGood}
 use Rattle.bt878_contract.specs.Clauses.{IsOutput, IsRefusal, IsUnreadOf, IsUsage, OfDesc, OfDescRun}
-use Rattle.double_buffer.proofs.Pairs.{are_fragments, is as is_chain, shows}
-use Rattle.double_buffer.proofs.Promising.{plays_are_live}
+use Rattle.slot_chain.proofs.Pairs.{are_fragments, is as is_chain, shows}
+use Rattle.slot_chain.proofs.Promising.{plays_are_live}
 use Rattle.chain_damage.specs.Rows.{LiveRunHoldsWholeRows}
 use Rattle.chain_damage.proofs.Held.{live_runs_hold_whole_rows}
 use Rattle.bt878_contract.specs.Chains.{HasFragments}

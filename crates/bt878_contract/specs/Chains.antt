@@ -1,7 +1,7 @@
 -- What a live run promises of the parts of its chain.
 use Rattle.std.specs.Prelude.{ℕ, ◌<◌}
-use Rattle.double_buffer.specs.Pairs.{part_for, shown_by}
-use Rattle.double_buffer.specs.Promises.{ShowsDescription}
+use Rattle.slot_chain.specs.Pairs.{part_for, shown_by}
+use Rattle.slot_chain.specs.Promises.{ShowsDescription}
 use Rattle.stream_play.specs.Runs.{LiveRan, chain_ran}
 
 -- the part of each slot for a buffer is the fragment of the buffer's description, whose memory the chain may write

@@ -31,8 +31,8 @@ use Rattle.ring_model.proofs.Sound.{ring_sound}
 use Rattle.ring_machine.specs.States.{RingState}
 use Rattle.chain_model.specs.Live.{Live}
 use Rattle.slot_chain.specs.States.{ChainState}
-use Rattle.double_buffer.specs.Promises.{IsPair}
-use Rattle.double_buffer.proofs.Promising.{plays_keep_promises}
+use Rattle.slot_chain.specs.Promises.{IsPair}
+use Rattle.slot_chain.proofs.Promising.{plays_keep_promises}
 use Rattle.risc_listing.specs.Listings.{listing}
 use Rattle.command_texts.specs.Texts.{accepted_text, blocks_text, help_text, made_text, report_text, version_text}
 use Rattle.command_steps.specs.Inputs.{OfFile, OfInput}

@@ -18,11 +18,11 @@ use command_steps::{Output, finish};
 use command_texts::{Answer, CheckText, ShortText};
 use damage_map::Track;
 use dma_machine::Machine;
-use double_buffer::DoubleBuffer;
 use machine_watch::Watched;
 use page_ram::PageRam;
 use program_build::Checked;
 use risc_verify::Program;
+use slot_chain::DoubleBuffer;
 use trace_play::StreamTrace;
 
 /// The outputs of a command, each with its name.

@@ -4,9 +4,9 @@ use Rattle.capture_desk.specs.Desks.{Inputs}
 use Rattle.capture_desc.specs.declared.desc.Desc.{Desc}
 use Rattle.picture_model.specs.Geometry.{frame_fault}
 use Rattle.chain_model.specs.declared.ChainFault.{ChainFault}
-use Rattle.double_buffer.specs.Faults.{chain_fault}
-use Rattle.double_buffer.specs.Pairs.{first_of_two}
-use Rattle.double_buffer.specs.Promises.{IsPair}
+use Rattle.slot_chain.specs.Faults.{chain_fault}
+use Rattle.slot_chain.specs.Pairs.{first_of_two}
+use Rattle.slot_chain.specs.Promises.{IsPair}
 use Rattle.slot_chain.specs.States.{ChainState}
 use Rattle.command_texts.specs.declared.refusal.Refusal.{Refusal}
 use Rattle.command_texts.specs.declared.refusal.Refusal.TheVariants.{BadChain, NoMemory}

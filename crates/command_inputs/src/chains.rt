@@ -4,15 +4,15 @@ ghost use Rattle.std.specs.Prelude.{◌≡◌, [], ◌∷◌, IfErr, IfOk, OnOk}
 ghost use Rattle.capture_desk.specs.Desks.{IsAllowed};
 ghost use Rattle.command_inputs.specs.Chains.{IsPairedBy, IsRefusedPair, a_second_with};
 ghost use Rattle.command_steps.specs.Reading.{Takes};
-ghost use Rattle.double_buffer.specs.Pairs.{first_of_two};
-ghost use Rattle.double_buffer.specs.Promises.{IsPair};
+ghost use Rattle.slot_chain.specs.Pairs.{first_of_two};
+ghost use Rattle.slot_chain.specs.Promises.{IsPair};
 
 use crate::descriptions::frame_file;
 use capture_desk::Desk;
 use command_texts::Refusal;
-use double_buffer::{DoubleBuffer, DoubleBufferError};
 use page_ram::PageRam;
 use planar_plan::Frame;
+use slot_chain::{DoubleBuffer, DoubleBufferError};
 use std::alloc::Global;
 
 /// Makes the chain of two frames.

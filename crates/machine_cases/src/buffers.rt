@@ -3,12 +3,12 @@
 use capture_desc::read_desc;
 use chain_model::ChainFault;
 use dma_machine::Report;
-use double_buffer::{DoubleBuffer, DoubleBufferError};
 use fifo_model::{Entry, Queue};
 use irq_status::HostWrite;
 use page_ram::{PageRam, Ram};
 use planar_plan::Frame;
 use risc_word::Code;
+use slot_chain::{DoubleBuffer, DoubleBufferError};
 use std::alloc::Global;
 use std::test::Fail;
 use sync_status::Status;

@@ -8,3 +8,11 @@ pub mod Placing
 pub mod Parts
 pub mod MadeChain
 pub mod Stepping
+mod Granting
+mod Reasons
+mod Together
+mod Standing
+pub mod Pairs
+mod Behind
+pub mod Plays
+pub mod Promising

@@ -1,3 +1,9 @@
 pub mod Wheels
 pub mod States
 pub mod Making
+pub mod Pairs
+pub mod Faults
+pub mod Fragments
+pub mod Refusals
+pub mod Plays
+pub mod Promises

@@ -3,10 +3,10 @@ use Rattle.std.proofs.Common.{◌≡◌, ℕ, true, List, [], ◌∷◌, refl, a
 use Rattle.capture_desc.specs.declared.desc.Desc.{Desc}
 use Rattle.capture_file.specs.declared.Step.{Step}
 use Rattle.slot_chain.specs.States.{ChainState}
-use Rattle.double_buffer.specs.Pairs.{first_of_two}
-use Rattle.double_buffer.specs.Plays.{chain_act}
-use Rattle.double_buffer.specs.Promises.{played}
-use Rattle.double_buffer.proofs.Plays.{plays_run}
+use Rattle.slot_chain.specs.Pairs.{first_of_two}
+use Rattle.slot_chain.specs.Plays.{chain_act}
+use Rattle.slot_chain.specs.Promises.{played}
+use Rattle.slot_chain.proofs.Plays.{plays_run}
 use Rattle.stream_play.specs.Plays.{PlaysAll, acted}
 use Rattle.stream_play.specs.Runs.{HasPlayedChain}
 

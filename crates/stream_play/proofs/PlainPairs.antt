@@ -14,7 +14,7 @@ use Rattle.machine_watch.specs.Watches.{Notes, Watching, watched}
 use Rattle.chain_model.specs.Chains.{Chain}
 use Rattle.chain_model.specs.Live.{Live, LiveStep, Plain, live_run, live_step}
 use Rattle.slot_chain.specs.States.{ChainState, stepped}
-use Rattle.double_buffer.specs.Plays.{chain_act}
+use Rattle.slot_chain.specs.Plays.{chain_act}
 use Rattle.stream_play.specs.Plays.{GoesOn, HandedPart, ReadsForm, acted, watch_act}
 use Rattle.stream_play.proofs.Playing.{GoesOn-same}
 use Rattle.stream_play.proofs.Watches.{acted_watched}

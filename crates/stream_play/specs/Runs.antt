@@ -14,8 +14,8 @@ use Rattle.capture_desc.specs.declared.desc.Desc.{Desc}
 use Rattle.chain_model.specs.Chains.{Chain}
 use Rattle.chain_model.specs.Live.{Live, LiveStep, first_live, live_run}
 use Rattle.slot_chain.specs.States.{ChainState}
-use Rattle.double_buffer.specs.Pairs.{chain_of_two}
-use Rattle.double_buffer.specs.Plays.{all_live_steps}
+use Rattle.slot_chain.specs.Pairs.{chain_of_two}
+use Rattle.slot_chain.specs.Plays.{all_live_steps}
 use Rattle.ring_model.specs.Rings.{Ring, ends}
 use Rattle.ring_model.specs.Runs.{block_ends}
 use Rattle.ring_machine.specs.States.{RingState}

@@ -8,17 +8,17 @@ ghost use Rattle.capture_file.specs.Readers.{fresh};
 ghost use Rattle.capture_file.specs.Records.{StepFits};
 ghost use Rattle.capture_file.specs.Pairs.{pair_steps};
 ghost use Rattle.dma_machine.specs.Plain.{AreRun, plain_room};
-ghost use Rattle.double_buffer.specs.Plays.{chain_act};
+ghost use Rattle.slot_chain.specs.Plays.{chain_act};
 ghost use Rattle.machine_watch.specs.Watches.{run_room};
 ghost use Rattle.stream_play.specs.Plays.{acted, watch_act};
 
 use capture_file::StepReader;
-use double_buffer::DoubleBuffer;
 use fifo_model::{Entry, Queue};
 use irq_status::HostWrite;
 use machine_watch::{Watch, Watched};
 use page_ram::Ram;
 use risc_word::Code;
+use slot_chain::DoubleBuffer;
 
 /// What takes the steps of a stream, one after the other. Proofs see what a step makes of it, and whether it has slots,
 /// which patches change. Streams with patches are played by one with slots alone.

@@ -5,10 +5,10 @@ ghost use Rattle.command_texts.specs.Texts.{blocks_text as told_blocks, report_t
 ghost use Rattle.dma_machine.specs.Facts.{report_of};
 
 use command_texts::{ShortText, blocks_text, report_text};
-use double_buffer::DoubleBuffer;
 use machine_watch::Watched;
 use page_ram::Ram;
 use ring_machine::BlockCount;
+use slot_chain::DoubleBuffer;
 
 /// A player of which a text is printed once its stream was played. Contracts see the bytes of that text.
 pub trait Reports {

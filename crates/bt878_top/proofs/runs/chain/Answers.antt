@@ -1,7 +1,7 @@
 use Rattle.command_steps.proofs.Sequence.{takes_before}
 use Rattle.std.proofs.Common.{true, subst, ◌∙◌, [], ◌∷◌}
 use Rattle.command_inputs.specs.Chains.{IsFrameFile, a_first_description, a_second_description}
-use Rattle.double_buffer.specs.Plays.{chain_act}
+use Rattle.slot_chain.specs.Plays.{chain_act}
 use Rattle.stream_play.specs.Plays.{PlaysAll}
 use Rattle.stream_play.specs.Runs.{HasPlayedChain, a_stream_file}
 use Rattle.stream_play.proofs.Chains.{chain_played}
