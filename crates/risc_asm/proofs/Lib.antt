@@ -14,3 +14,4 @@ pub mod DigitTable
 pub mod ShortName
 mod Telling
 mod Settling
+mod Names

@@ -13,13 +13,23 @@ ghost use Rattle.std.specs.Prelude.{◌≡◌, ◌+◌, ◌*◌, ◌≤◌, ◌<
 use risc_text::Name;
 use risc_word::{Code, Ctl, Ends, Instr, NO_CONTROL, NO_ENDS};
 
-// The text after these bytes, where it begins with them.
+// The text after these bytes, where it begins with them. They are names of a few bytes, which are so compared in place, with no call.
 #[inline(always)]
 pub fn after<'a>(text: &'a [u8], name: &[u8]) -> Option<&'a [u8]>
     ensures value { Reads (λ x. x.now) result (after name.now text.now) }
     ensures rest { IfSome result (λ x. length x.now + length name.now ≡ length text.now) }
 {
-    text.strip_prefix(name)
+    if text.len() < name.len() {
+        return None;
+    }
+    let mut at = 0;
+    while at < name.len() {
+        if text[at] != name[at] {
+            return None;
+        }
+        at += 1;
+    }
+    Some(&text[name.len()..])
 }
 
 // The text after the end of a line, where one is here.
