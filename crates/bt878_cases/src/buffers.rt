@@ -4,8 +4,10 @@
 use crate::calls::{LONG, chained, damaged, ringed};
 use crate::cases::Parts;
 use crate::left::Left;
+use crate::programs::on_page;
 use std::alloc::{AllocError, Global};
 use std::test::Fail;
+use test_kit::TWO_BLOCKS;
 
 /// Two blocks of a line of 8 bytes.
 pub const RING: &[u8] = b"blocks = 2\nlines = 1\nline_bytes = 8\npages = [0x20000]\n";
@@ -14,11 +16,6 @@ pub const RING: &[u8] = b"blocks = 2\nlines = 1\nline_bytes = 8\npages = [0x2000
 pub const RING_STREAM: &[u8] =
     b"BFS1\x04\x06\x01\x02\x10\x11\x12\x13\x01\x01\x14\x15\x16\x17\x01\x02\x20\x21\x22\x23\x01\x01\x24\x25\x26\x27\x01\x02\x30\x31\x32\x33\
         \x01\x01\x34\x35\x36\x37\x05\x0a\x00\x00\x00\x00";
-
-/// SYNC FM1, a WRITE for each line, which interrupts with the number of its block, and the JUMP behind the SYNC.
-const RING_PROGRAM: &[u8] =
-    b"BRP1\x00\x10\x00\x00\x08\x00\x00\x00\x06\x80\x00\x80\x00\x00\x00\x00\x08\x00\xf0\x1d\x00\x00\x02\x00\x08\x00\xe1\x1d\x08\x00\x02\x00\
-        \x00\x00\x00p\x08\x10\x00\x00\x01\x00\x00\x00\x00\x00\x02\x00\x00";
 
 /// The first two lines in their blocks.
 const RING_IMAGE: Parts = &[
@@ -111,17 +108,17 @@ fn on_pages(alloc: Global, count: u32, first: u32) -> Result<String, AllocError>
 }
 
 /// Whether `ring` answers and prints this on a ring file and a stream, and writes this program and
-/// this image; none where they are empty.
+/// this image, or none.
 fn rings(
     alloc: Global,
     files: [&[u8]; 2],
     answer: (u8, &[u8]),
-    program: Parts,
+    program: Option<&[u8]>,
     image: Parts,
 ) -> Result<bool, AllocError> {
     let [ring, stream] = files;
     let left = ringed(alloc, ring, stream, &[], LONG)?;
-    Ok(left.has(answer.0, answer.1, image) && left.has_parts("program", program))
+    Ok(left.has(answer.0, answer.1, image) && left.desk.output("program") == program)
 }
 
 /// Whether `chain` answers and prints this on two descriptions and a stream, and writes this image;
@@ -146,9 +143,9 @@ fn tells_rows(alloc: Global, stream: &[u8], said: &[u8]) -> Result<bool, AllocEr
 #[test]
 fn a_ring_ends_two_blocks(rt: HostRuntime) -> Result<(), Fail> {
     let said = b"blocks 2\nturns 10\nmoved 16\noverruns 0 0 0 0\nstatus 10000800\n";
-    let program = &[(1, RING_PROGRAM)];
+    let program = on_page(rt.alloc(), &TWO_BLOCKS)?;
     let files = [RING, RING_STREAM];
-    assert!(rt; rings(rt.alloc(), files, (0, said), program, RING_IMAGE)?);
+    assert!(rt; rings(rt.alloc(), files, (0, said), Some(&program), RING_IMAGE)?);
     Ok(())
 }
 
@@ -156,10 +153,10 @@ fn a_ring_ends_two_blocks(rt: HostRuntime) -> Result<(), Fail> {
 fn a_ring_file_is_refused(rt: HostRuntime) -> Result<(), Fail> {
     let short = b"blocks = 2\nlines = 1\nline_bytes = 4\npages = [0x20000]\n";
     let said = b"ring: out of range key line_bytes\n";
-    assert!(rt; rings(rt.alloc(), [short, b"BFS1\x00"], (3, said), &[], &[])?);
+    assert!(rt; rings(rt.alloc(), [short, b"BFS1\x00"], (3, said), None, &[])?);
     let wide = b"blocks = 3\nlines = 2\nline_bytes = 1000\npages = [0x20000]\n";
     let said = b"ring: too few pages, need 2, have 1\n";
-    assert!(rt; rings(rt.alloc(), [wide, b"BFS1\x00"], (3, said), &[], &[])?);
+    assert!(rt; rings(rt.alloc(), [wide, b"BFS1\x00"], (3, said), None, &[])?);
     Ok(())
 }
 

@@ -8,10 +8,10 @@ ghost use Rattle.capture_desk.specs.Memory.{all_told};
 
 use crate::calls::{LONG, captured, compiled, is_at_fault, left_by, made};
 use crate::descriptions::{
-    CAPTURED, CHUNKED, CHUNKED_IMAGE, CHUNKED_PROGRAM, CHUNKED_REPORT, CHUNKED_STREAM, COMPILED,
-    Captured, Compiled, MADE, Made, REFUSED, Refused, SEEDED_STREAM,
+    CAPTURED, CHUNKED, CHUNKED_IMAGE, CHUNKED_REPORT, CHUNKED_STREAM, COMPILED, Captured, Compiled,
+    MADE, Made, ON_CHUNKS, REFUSED, Refused, SEEDED_STREAM,
 };
-use crate::desks::{Limits, described, desk_of, joined, program_file};
+use crate::desks::{Limits, described, desk_of, joined};
 use crate::left::Left;
 use crate::painting::{PAINTED, PICTURE, Painted, paint};
 use capture_desk::MemDesk;
@@ -20,8 +20,8 @@ use std::test::Fail;
 
 /// Whether `compile` left the program of a case and what is printed of it.
 fn is_compiled(left: &Left, alloc: Global, case: &Compiled) -> Result<bool, AllocError> {
-    let said = format!(in alloc; "words {} pages {}\n", case.words.len(), case.grants())?;
-    let program = program_file(alloc, case)?;
+    let said = format!(in alloc; "words {} pages {}\n", case.words.len(), case.chunks.len())?;
+    let program = case.program(alloc)?;
     Ok(left.says(0, said.as_bytes()) && left.wrote("out", &program) && left.has_faults(0, 0))
 }
 
@@ -326,35 +326,35 @@ fn pictures_of_each_format(rt: HostRuntime) -> Result<(), Fail> {
 }
 
 /// Whether the outputs were begun one after the other, and the text after them.
-fn began_in_order(left: &Left) -> bool {
+fn began_in_order(left: &Left, program: &[u8]) -> bool {
     let said = left.desk.said();
     CHUNKED_REPORT.starts_with(said)
-        && (left.lacks("image") || left.wrote("program", CHUNKED_PROGRAM))
+        && (left.lacks("image") || left.wrote("program", program))
         && (said.is_empty() || left.wrote("image", CHUNKED_IMAGE))
 }
 
 /// Whether a fault of writing left beginnings.
-fn ended_writing(left: &Left) -> bool {
-    left.began("program", CHUNKED_PROGRAM)
+fn ended_writing(left: &Left, program: &[u8]) -> bool {
+    left.began("program", program)
         && left.began("image", CHUNKED_IMAGE)
-        && began_in_order(left)
+        && began_in_order(left, program)
         && left.has_faults(0, 1)
 }
 
 /// Whether all was done.
-fn ended_whole(left: &Left) -> bool {
+fn ended_whole(left: &Left, program: &[u8]) -> bool {
     left.says(0, CHUNKED_REPORT)
-        && left.wrote("program", CHUNKED_PROGRAM)
+        && left.wrote("program", program)
         && left.wrote("image", CHUNKED_IMAGE)
 }
 
-/// What is left where a call alone fails. A fault of reading creates nothing; at a fault of writing the
-/// outputs that were begun are there one after the other, and the text begins after them.
-fn stands(left: &Left) -> bool {
+/// What is left where a call alone fails of a capture that writes this program. A fault of reading creates nothing;
+/// at a fault of writing the outputs that were begun are there one after the other, and the text begins after them.
+fn stands(left: &Left, program: &[u8]) -> bool {
     match left.status {
         4 => left.says_only(4, b"read fault\n") && left.has_faults(1, 0),
-        5 => ended_writing(left),
-        _ => ended_whole(left),
+        5 => ended_writing(left, program),
+        _ => ended_whole(left, program),
     }
 }
 
@@ -362,11 +362,12 @@ fn stands(left: &Left) -> bool {
 fn failing_status(
     alloc: Global,
     description: &[u8],
+    program: &[u8],
     longest: usize,
     number: u64,
 ) -> Result<Option<u8>, AllocError> {
     let left = captured(alloc, description, CHUNKED_STREAM, &[number], longest, 500)?;
-    Ok(if stands(&left) {
+    Ok(if stands(&left, program) {
         Some(left.status)
     } else {
         None
@@ -382,9 +383,10 @@ fn failing_calls(
     status: u8,
 ) -> Result<Option<u64>, AllocError> {
     let description = described(alloc, CHUNKED)?;
+    let program = ON_CHUNKS.program(alloc)?;
     let mut count = 0;
     for number in first..1000 {
-        match failing_status(alloc, &description, longest, number)? {
+        match failing_status(alloc, &description, &program, longest, number)? {
             None => return Ok(None),
             Some(other) if other != status => break,
             Some(_) => count = number - first + 1,

@@ -1,28 +1,25 @@
 // Worked cases of descriptions. Their programs, texts and images were computed by hand from docs/FORMATS.md and docs/MACHINE.md.
 
 use crate::cases::Parts;
+use std::alloc::{AllocError, Global};
+use test_kit::{ONE_LINE, brp};
 
 /// Keys of a description with their values. A key with an empty value isn't there.
 pub type Keys = &'static [(&'static str, &'static str)];
 
-/// Changes to the plain description, and the program file that it asks for. Its grants are pages, or
-/// else chunks, in rising order.
+/// Changes to the plain description, and the program file that it asks for, with the fill 0. Its chunks are in rising
+/// order.
 pub struct Compiled {
     pub changes: Keys,
     pub base: u32,
     pub words: &'static [u32],
-    pub pages: &'static [u32],
     pub chunks: &'static [(u32, u32)],
 }
 
 impl Compiled {
-    /// How many pages or chunks there are.
-    pub fn grants(&self) -> usize {
-        if self.chunks.is_empty() {
-            self.pages.len()
-        } else {
-            self.chunks.len()
-        }
+    /// The program file.
+    pub fn program(&self, alloc: Global) -> Result<Vec<u8>, AllocError> {
+        brp(alloc, self.base, self.words, self.chunks, 0)
     }
 }
 
@@ -62,11 +59,15 @@ pub const PLAIN: Keys = &[
 /// The row on two chunks of 4 bytes.
 pub const CHUNKED: Keys = &[("pages", ""), ("chunks", "[[0x20004, 4], [0x30000, 4]]")];
 
-/// The program file of the row on two chunks.
-pub const CHUNKED_PROGRAM: &[u8] =
-    b"BRP2\x00\x10\x00\x00\x0a\x00\x00\x00\x04\x80\x00\x80\x00\x00\x00\x00\x06\x00\x00\x80\x00\x00\x00\x00\x04\x00\x00\x18\x04\x00\x02\x00\
-        \x04\x00\x00\x14\x00\x00\x03\x00\x00\x00\xe1q\x00\x10\x00\x00\x02\x00\x00\x00\x04\x00\x02\x00\x04\x00\x00\x00\x00\x00\x03\x00\
-        \x04\x00\x00\x00\x00";
+/// The row on two chunks, and its program.
+pub const ON_CHUNKS: Compiled = Compiled {
+    changes: CHUNKED,
+    base: 0x1000,
+    words: &[
+        0x80008004, 0, 0x80000006, 0, 0x18000004, 0x20004, 0x14000004, 0x30000, 0x71e10000, 0x1000,
+    ],
+    chunks: &[(0x20004, 4), (0x30000, 4)],
+};
 
 /// A field of that row on queue 1, then eleven turns.
 pub const CHUNKED_STREAM: &[u8] =
@@ -90,11 +91,8 @@ pub static COMPILED: [Compiled; 12] = [
     Compiled {
         changes: &[],
         base: 0x1000,
-        words: &[
-            0x80008004, 0, 0x80000006, 0, 0x1c000008, 0x20000, 0x71e10000, 0x1000,
-        ],
-        pages: &[0x20000],
-        chunks: &[],
+        words: &ONE_LINE,
+        chunks: &[(0x20000, 4096)],
     },
     // a piece has at most 4,092 bytes
     Compiled {
@@ -104,8 +102,7 @@ pub static COMPILED: [Compiled; 12] = [
             0x80008004, 0, 0x80000006, 0, 0x18000ffc, 0x20000, 0x14000004, 0x20ffc, 0x71e10000,
             0x1000,
         ],
-        pages: &[0x20000],
-        chunks: &[],
+        chunks: &[(0x20000, 4096)],
     },
     // a pixel crosses the end of a page, and the next page lies below
     Compiled {
@@ -120,8 +117,7 @@ pub static COMPILED: [Compiled; 12] = [
             0x80008004, 0, 0x80000006, 0, 0x18000007, 0x30ff9, 0x14000008, 0x20000, 0x71e10000,
             0x1000,
         ],
-        pages: &[0x20000, 0x30000],
-        chunks: &[],
+        chunks: &[(0x20000, 4096), (0x30000, 4096)],
     },
     // clips cover a row, touch, overlap and are empty
     Compiled {
@@ -138,8 +134,7 @@ pub static COMPILED: [Compiled; 12] = [
             0x80008004, 0, 0x80000006, 0, 0x18000004, 0x20000, 0x20000006, 0x14000006, 0x2000a,
             0x2c000010, 0x18000002, 0x20020, 0x20000008, 0x14000006, 0x2002a, 0x71e10000, 0x1000,
         ],
-        pages: &[0x20000],
-        chunks: &[],
+        chunks: &[(0x20000, 4096)],
     },
     // a unit that is clipped in part is kept as it was
     Compiled {
@@ -152,8 +147,7 @@ pub static COMPILED: [Compiled; 12] = [
         words: &[
             0x80008004, 0, 0x80000006, 0, 0x2800000c, 0x1400000c, 0x2000c, 0x71e10000, 0x1000,
         ],
-        pages: &[0x20000],
-        chunks: &[],
+        chunks: &[(0x20000, 4096)],
     },
     // two fields of three planes; chroma is kept of each other row of a field
     Compiled {
@@ -171,8 +165,7 @@ pub static COMPILED: [Compiled; 12] = [
             0x20068, 0x20088, 0xbc000010, 0x80008, 0x20030, 0x9c000010, 0x80008, 0x20050, 0x20078,
             0x20098, 0x71d20000, 0x1000,
         ],
-        pages: &[0x20000],
-        chunks: &[],
+        chunks: &[(0x20000, 4096)],
     },
     // where one plane crosses the end of a page, all three are cut
     Compiled {
@@ -187,8 +180,7 @@ pub static COMPILED: [Compiled; 12] = [
             0x80008004, 0, 0x8000000e, 0, 0x98000018, 0x60006, 0x20000, 0x20ffa, 0x40068,
             0x94000028, 0xa000a, 0x20018, 0x40000, 0x4006e, 0x71e10000, 0x1000,
         ],
-        pages: &[0x20000, 0x40000],
-        chunks: &[],
+        chunks: &[(0x20000, 4096), (0x40000, 4096)],
     },
     // a skipped line
     Compiled {
@@ -197,8 +189,7 @@ pub static COMPILED: [Compiled; 12] = [
         words: &[
             0x80008004, 0, 0x80000006, 0, 0x2c000008, 0x1c000008, 0x20000, 0x71e10000, 0x1000,
         ],
-        pages: &[0x20000],
-        chunks: &[],
+        chunks: &[(0x20000, 4096)],
     },
     // the program may end where a page begins
     Compiled {
@@ -207,20 +198,10 @@ pub static COMPILED: [Compiled; 12] = [
         words: &[
             0x80008004, 0, 0x80000006, 0, 0x1c000008, 0x20000, 0x71e10000, 0x1ffe0,
         ],
-        pages: &[0x20000],
-        chunks: &[],
+        chunks: &[(0x20000, 4096)],
     },
     // chunks of 4 bytes
-    Compiled {
-        changes: CHUNKED,
-        base: 0x1000,
-        words: &[
-            0x80008004, 0, 0x80000006, 0, 0x18000004, 0x20004, 0x14000004, 0x30000, 0x71e10000,
-            0x1000,
-        ],
-        pages: &[],
-        chunks: &[(0x20004, 4), (0x30000, 4)],
-    },
+    ON_CHUNKS,
     // chunks that touch are two chunks
     Compiled {
         changes: &[("pages", ""), ("chunks", "[[0x20000, 4], [0x20004, 4]]")],
@@ -229,7 +210,6 @@ pub static COMPILED: [Compiled; 12] = [
             0x80008004, 0, 0x80000006, 0, 0x18000004, 0x20000, 0x14000004, 0x20004, 0x71e10000,
             0x1000,
         ],
-        pages: &[],
         chunks: &[(0x20000, 4), (0x20004, 4)],
     },
     // three planes over two chunks
@@ -245,7 +225,6 @@ pub static COMPILED: [Compiled; 12] = [
             0x80008004, 0, 0x8000000e, 0, 0x98000008, 0x40004, 0x20000, 0x30004, 0x3000a,
             0x94000004, 0x20002, 0x30000, 0x30008, 0x3000e, 0x71e10000, 0x1000,
         ],
-        pages: &[],
         chunks: &[(0x20000, 8), (0x30000, 16)],
     },
 ];

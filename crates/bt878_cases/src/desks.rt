@@ -4,7 +4,7 @@ ghost use Rattle.bt878_words.specs.Words.{texts};
 ghost use Rattle.capture_desk.specs.Memory.{all_told};
 
 use crate::cases::Parts;
-use crate::descriptions::{Compiled, Keys, PLAIN};
+use crate::descriptions::{Keys, PLAIN};
 use capture_desk::{MemDesk, Octets};
 use std::alloc::{AllocError, Global};
 
@@ -157,42 +157,4 @@ pub fn described(alloc: Global, changes: Keys) -> Result<Vec<u8>, AllocError> {
         }
     }
     Ok(text)
-}
-
-fn add_number(file: &mut Vec<u8>, number: u32) -> Result<(), AllocError> {
-    file.extend_from_slice(&number.to_le_bytes())
-}
-
-fn add_count(file: &mut Vec<u8>, count: usize) -> Result<(), AllocError> {
-    file.extend_from_slice(&count.to_le_bytes()[..4])
-}
-
-fn add_grants(file: &mut Vec<u8>, case: &Compiled) -> Result<(), AllocError> {
-    add_count(file, case.grants())?;
-    for page in case.pages {
-        add_number(file, *page)?;
-    }
-    for (address, length) in case.chunks {
-        add_number(file, *address)?;
-        add_number(file, *length)?;
-    }
-    Ok(())
-}
-
-/// The program file of a case, with the fill 0.
-pub fn program_file(alloc: Global, case: &Compiled) -> Result<Vec<u8>, AllocError> {
-    let magic = if case.chunks.is_empty() {
-        b"BRP1"
-    } else {
-        b"BRP2"
-    };
-    let mut file = Vec::from_slice(alloc, magic)?;
-    add_number(&mut file, case.base)?;
-    add_count(&mut file, case.words.len())?;
-    for word in case.words {
-        add_number(&mut file, *word)?;
-    }
-    add_grants(&mut file, case)?;
-    file.extend_from_slice(&[0])?;
-    Ok(file)
 }

@@ -5,10 +5,12 @@ use crate::calls::{
     LONG, assembled, captured, chained, checked, compiled, damaged, judged, listed, made, played,
     ringed, traced,
 };
-use crate::cases::{ONE_LINE, ONE_LINE_LISTING, ONE_LINE_STREAM};
+use crate::cases::ONE_LINE_STREAM;
 use crate::left::Left;
+use crate::programs::{ONE_LINE_LENGTH, one_line};
 use std::alloc::{AllocError, Global};
 use std::test::Fail;
+use test_kit::ONE_LINE_LISTING;
 
 /// More calls than a command makes whose calls move many bytes.
 const CALLS: u64 = 60;
@@ -47,18 +49,24 @@ static COMMANDS: [Command; 12] = [
     Command::Ring,
 ];
 
+/// How many calls read an input of this length: it is opened, read, in one call or byte by byte, and once more at its end.
+fn reads_of(length: usize, longest: usize) -> u64 {
+    let pieces = if longest == 1 { length } else { 1 };
+    (pieces as u64).saturating_add(2)
+}
+
 impl Command {
     /// What the command leaves, on files that it takes.
     fn tried(self, alloc: Global, failing: &[u64], longest: usize) -> Result<Left, AllocError> {
         match self {
-            Command::List => listed(alloc, ONE_LINE, failing, longest),
-            Command::Verify => judged(alloc, ONE_LINE, failing, longest),
-            Command::Check => checked(alloc, ONE_LINE, FIRST, failing, longest),
+            Command::List => listed(alloc, &one_line(alloc)?, failing, longest),
+            Command::Verify => judged(alloc, &one_line(alloc)?, failing, longest),
+            Command::Check => checked(alloc, &one_line(alloc)?, FIRST, failing, longest),
             Command::Assemble => assembled(alloc, ONE_LINE_LISTING, failing, longest),
             Command::Compile => compiled(alloc, FIRST, failing, longest, 5000),
             Command::Make => made(alloc, FIRST, failing, longest, 5000),
-            Command::Run => played(alloc, ONE_LINE, ONE_LINE_STREAM, failing, longest),
-            Command::Trace => traced(alloc, ONE_LINE, ONE_LINE_STREAM, failing, longest),
+            Command::Run => played(alloc, &one_line(alloc)?, ONE_LINE_STREAM, failing, longest),
+            Command::Trace => traced(alloc, &one_line(alloc)?, ONE_LINE_STREAM, failing, longest),
             Command::Capture => captured(alloc, FIRST, STILL_STREAM, failing, longest, 5000),
             Command::Damage => damaged(alloc, FIRST, STILL_STREAM, failing, longest),
             Command::Chain => chained(alloc, FIRST, SECOND, CHAIN_STREAM, failing, longest),
@@ -66,14 +74,22 @@ impl Command {
         }
     }
 
-    /// The inputs of the command.
+    /// The length of the program that the command reads.
+    fn program(self) -> Option<usize> {
+        match self {
+            Command::List | Command::Verify | Command::Check => Some(ONE_LINE_LENGTH),
+            Command::Run | Command::Trace => Some(ONE_LINE_LENGTH),
+            _ => None,
+        }
+    }
+
+    /// The other inputs of the command.
     fn inputs(self) -> &'static [&'static [u8]] {
         match self {
-            Command::List | Command::Verify => &[ONE_LINE],
-            Command::Check => &[ONE_LINE, FIRST],
+            Command::List | Command::Verify => &[],
+            Command::Check | Command::Compile | Command::Make => &[FIRST],
             Command::Assemble => &[ONE_LINE_LISTING],
-            Command::Compile | Command::Make => &[FIRST],
-            Command::Run | Command::Trace => &[ONE_LINE, ONE_LINE_STREAM],
+            Command::Run | Command::Trace => &[ONE_LINE_STREAM],
             Command::Capture | Command::Damage => &[FIRST, STILL_STREAM],
             Command::Chain => &[FIRST, SECOND, CHAIN_STREAM],
             Command::Ring => &[RING, RING_STREAM],
@@ -90,12 +106,14 @@ impl Command {
         }
     }
 
-    /// How many calls read: each input is opened, read, in one call or byte by byte, and once more at its end.
+    /// How many calls read.
     fn reading_calls(self, longest: usize) -> u64 {
-        let mut calls = 0_u64;
+        let mut calls = match self.program() {
+            Some(length) => reads_of(length, longest),
+            None => 0,
+        };
         for input in self.inputs() {
-            let pieces = if longest == 1 { input.len() } else { 1 };
-            calls = calls.saturating_add(2).saturating_add(pieces as u64);
+            calls = calls.saturating_add(reads_of(input.len(), longest));
         }
         calls
     }
@@ -269,7 +287,7 @@ fn a_difference_stays_where_it_cannot_be_said(rt: HostRuntime) -> Result<(), Fai
     let reads = Command::Check.reading_calls(LONG);
     let left = checked(
         rt.alloc(),
-        ONE_LINE,
+        &one_line(rt.alloc())?,
         SECOND,
         &[reads.saturating_add(1)],
         LONG,

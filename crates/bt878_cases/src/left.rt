@@ -50,16 +50,16 @@ impl Left {
         self.desk.output(name) == other.desk.output(name)
     }
 
-    /// Whether the output of this name has these bytes, or isn't there where there are none.
-    pub fn has_parts(&self, name: &str, parts: Parts) -> bool {
-        match self.desk.output(name) {
-            Some(bytes) => !parts.is_empty() && are_parts(bytes, parts),
-            None => parts.is_empty(),
+    /// Whether the image has these bytes, or isn't there where there are none.
+    fn has_image(&self, image: Parts) -> bool {
+        match self.desk.output("image") {
+            Some(bytes) => !image.is_empty() && are_parts(bytes, image),
+            None => image.is_empty(),
         }
     }
 
     /// Whether it answered and printed this, and left an image of these bytes, or none where they are empty.
     pub fn has(&self, status: u8, said: &[u8], image: Parts) -> bool {
-        self.says(status, said) && self.has_parts("image", image)
+        self.says(status, said) && self.has_image(image)
     }
 }

@@ -24,6 +24,8 @@ mod order;
 #[cfg(test)]
 mod painting;
 #[cfg(test)]
+mod programs;
+#[cfg(test)]
 mod runtime;
 #[cfg(test)]
 mod shown;

@@ -2,8 +2,9 @@
 
 use crate::buffers::{FIRST, SECOND};
 use crate::calls::{LONG, status_of};
-use crate::cases::{NO_WORDS, ONE_LINE, ONE_LINE_STREAM};
+use crate::cases::ONE_LINE_STREAM;
 use crate::desks::{Limits, desk_of};
+use crate::programs::{no_words, one_line};
 use capture_desk::{Call, LoggedDesk, MemDesk, Octets};
 use std::alloc::{AllocError, Global};
 use std::collections::VecDeque;
@@ -114,9 +115,10 @@ fn checks_in_calls(
 /// report is printed.
 #[test]
 fn a_run_works_in_order(rt: HostRuntime) -> Result<(), Fail> {
+    let program = one_line(rt.alloc())?;
     let wanted =
         b"say\nfinish\ncreate image\nread 65536: 0\nread 65536: 26\nopen stream\nread 65536: 0\nread 65536: 53\nopen program\n";
-    assert!(rt; makes_calls(rt.alloc(), ONE_LINE, ONE_LINE_STREAM, &[], wanted)?);
+    assert!(rt; makes_calls(rt.alloc(), &program, ONE_LINE_STREAM, &[], wanted)?);
     Ok(())
 }
 
@@ -131,34 +133,38 @@ fn a_bad_program_is_told_first(rt: HostRuntime) -> Result<(), Fail> {
 /// A fault in the first piece of a stream is reported before the next is read.
 #[test]
 fn a_bad_piece_is_told_at_once(rt: HostRuntime) -> Result<(), Fail> {
+    let program = one_line(rt.alloc())?;
     let wanted = b"say\nread 65536: 5\nopen stream\nread 65536: 0\nread 65536: 53\nopen program\n";
-    assert!(rt; makes_calls(rt.alloc(), ONE_LINE, b"BFS1\x0a", &[], wanted)?);
+    assert!(rt; makes_calls(rt.alloc(), &program, b"BFS1\x0a", &[], wanted)?);
     Ok(())
 }
 
 /// No call follows a creation that failed: it is the seventh call.
 #[test]
 fn a_failed_creation_is_the_last_call(rt: HostRuntime) -> Result<(), Fail> {
+    let program = one_line(rt.alloc())?;
     let wanted =
         b"create image failed\nread 65536: 0\nread 65536: 26\nopen stream\nread 65536: 0\nread 65536: 53\nopen program\n";
-    assert!(rt; makes_calls(rt.alloc(), ONE_LINE, ONE_LINE_STREAM, &[7], wanted)?);
+    assert!(rt; makes_calls(rt.alloc(), &program, ONE_LINE_STREAM, &[7], wanted)?);
     Ok(())
 }
 
 /// The program is read through and checked before the description is opened; then the verdict is printed.
 #[test]
 fn a_check_works_in_order(rt: HostRuntime) -> Result<(), Fail> {
+    let program = one_line(rt.alloc())?;
     let wanted =
         b"say\nread 65536: 0\nread 65536: 68\nopen description\nread 65536: 0\nread 65536: 53\nopen program\n";
-    assert!(rt; checks_in_calls(rt.alloc(), ONE_LINE, FIRST, wanted)?);
-    assert!(rt; checks_in_calls(rt.alloc(), ONE_LINE, SECOND, wanted)?);
+    assert!(rt; checks_in_calls(rt.alloc(), &program, FIRST, wanted)?);
+    assert!(rt; checks_in_calls(rt.alloc(), &program, SECOND, wanted)?);
     Ok(())
 }
 
 /// A program that isn't sound is reported before the description is opened.
 #[test]
 fn an_unsound_program_is_told_first(rt: HostRuntime) -> Result<(), Fail> {
+    let program = no_words(rt.alloc())?;
     let wanted = b"say\nread 65536: 0\nread 65536: 21\nopen program\n";
-    assert!(rt; checks_in_calls(rt.alloc(), NO_WORDS, FIRST, wanted)?);
+    assert!(rt; checks_in_calls(rt.alloc(), &program, FIRST, wanted)?);
     Ok(())
 }

@@ -5,16 +5,17 @@ ghost use Rattle.capture_desk.specs.Memory.{all_told};
 
 use crate::buffers::FIRST;
 use crate::calls::{LONG, checked, is_at_fault, left_by};
-use crate::cases::{NO_WORDS, ONE_LINE};
 use crate::descriptions::Keys;
 use crate::desks::{Limits, described, desk_of};
+use crate::programs::{no_words, on_page, one_line};
 use capture_desk::MemDesk;
 use std::alloc::{AllocError, Global};
 use std::test::Fail;
+use test_kit::ONE_LINE;
 
-/// A program file, changes to the plain description, and what is reported of them.
+/// The words of a program, changes to the plain description, and what is reported of them.
 struct Checked {
-    program: &'static [u8],
+    words: &'static [u32],
     changes: Keys,
     status: u8,
     said: &'static [u8],
@@ -23,14 +24,14 @@ struct Checked {
 static CHECKED: [Checked; 29] = [
     // the program of a line shows the line
     Checked {
-        program: ONE_LINE,
+        words: &ONE_LINE,
         changes: &[],
         status: 0,
         said: b"top: shown from 00001000 to 00001018, 2 instructions, jump irq set=1 reset=e\n",
     },
     // also on a chunk, with another base and fill than the program has
     Checked {
-        program: ONE_LINE,
+        words: &ONE_LINE,
         changes: &[
             ("pages", ""),
             ("chunks", "[[0x20000, 8]]"),
@@ -42,70 +43,70 @@ static CHECKED: [Checked; 29] = [
     },
     // the program of the description would be on its page: that is no fault here
     Checked {
-        program: ONE_LINE,
+        words: &ONE_LINE,
         changes: &[("pages", "[0x1000]")],
         status: 1,
         said: b"top: differs at 00001010: row 0, queue 1: byte 0 at 00001000 awaited\n",
     },
     // a line on another page
     Checked {
-        program: ONE_LINE,
+        words: &ONE_LINE,
         changes: &[("pages", "[0x30000]")],
         status: 1,
         said: b"top: differs at 00001010: row 0, queue 1: byte 0 at 00030000 awaited\n",
     },
     // a longer line
     Checked {
-        program: ONE_LINE,
+        words: &ONE_LINE,
         changes: &[("width", "16")],
         status: 1,
         said: b"top: differs at 00001010: row 0, queue 1: eol at byte 7 of 16\n",
     },
     // a shorter line: the byte behind it awaits nothing
     Checked {
-        program: ONE_LINE,
+        words: &ONE_LINE,
         changes: &[("width", "5")],
         status: 1,
         said: b"top: differs at 00001010: queue 1: nothing awaited\n",
     },
     // another line: the loop comes round
     Checked {
-        program: ONE_LINE,
+        words: &ONE_LINE,
         changes: &[("height", "2")],
         status: 1,
         said: b"top: differs at 00001000: row 1, queue 1: byte 0 awaited\n",
     },
     // a line of the blanking interval before the row
     Checked {
-        program: ONE_LINE,
+        words: &ONE_LINE,
         changes: &[("vbi_lines", "1"), ("vbi_bytes", "8")],
         status: 1,
         said: b"top: differs at 00001010: vbi 0, queue 1: byte 0 at 00020008 awaited\n",
     },
     // a skipped one before it
     Checked {
-        program: ONE_LINE,
+        words: &ONE_LINE,
         changes: &[("vbi_lines", "1"), ("vbi_bytes", "8"), ("vbi_skip", "[1]")],
         status: 1,
         said: b"top: differs at 00001010: skipped vbi 0, queue 1: byte 0 without a place awaited\n",
     },
     // a skipped line before the row
     Checked {
-        program: ONE_LINE,
+        words: &ONE_LINE,
         changes: &[("skip_lines", "1")],
         status: 1,
         said: b"top: differs at 00001010: skipped 0, queue 1: byte 0 without a place awaited\n",
     },
     // the end of the row is clipped
     Checked {
-        program: ONE_LINE,
+        words: &ONE_LINE,
         changes: &[("clip", "[[6, 0, 2, 1]]")],
         status: 1,
         said: b"top: differs at 00001010: row 0, queue 1: byte 6 without a place awaited\n",
     },
     // chroma is awaited
     Checked {
-        program: ONE_LINE,
+        words: &ONE_LINE,
         changes: &[
             ("format", "\"yuv422p\""),
             ("width", "16"),
@@ -116,136 +117,151 @@ static CHECKED: [Checked; 29] = [
     },
     // the other field
     Checked {
-        program: ONE_LINE,
+        words: &ONE_LINE,
         changes: &[("fields", "\"bottom\"")],
         status: 1,
         said: b"bottom: differs at 00001000: no sync vro\n",
     },
     // one field of two
     Checked {
-        program: ONE_LINE,
+        words: &ONE_LINE,
         changes: &[("height", "2"), ("fields", "\"both\"")],
         status: 1,
         said: b"top: shown from 00001000 to 00001018, 2 instructions, jump irq set=1 reset=e\nbottom: differs at 00001000: no sync vro\n",
     },
     // a line in two pieces, behind a JUMP
     Checked {
-        program: b"BRP1\x00\x10\x00\x00\x0c\x00\x00\x00\x04\x80\x00\x80\x00\x00\x00\x00\x00\x00\x00p\x10\x10\x00\x00\x06\x00\x00\x80\
-            \x00\x00\x00\x00\x03\x00\x00\x18\x00\x00\x02\x00\x05\x00\x00\x14\x03\x00\x02\x00\x00\x00\xe1q\x00\x10\x00\x00\x01\x00\x00\x00\
-            \x00\x00\x02\x00\x00",
+        words: &[
+            0x80008004, 0, 0x70000000, 0x1010, 0x80000006, 0, 0x18000003, 0x20000, 0x14000005,
+            0x20003, 0x71e10000, 0x1000,
+        ],
         changes: &[],
         status: 0,
         said: b"top: shown from 00001000 to 00001028, 4 instructions, jump irq set=1 reset=e\n",
     },
     // the next field's SYNC ends a field
     Checked {
-        program: b"BRP1\x00\x10\x00\x00\n\x00\x00\x00\x04\x80\x00\x80\x00\x00\x00\x00\x06\x00\x00\x80\x00\x00\x00\x00\x08\x00\x00\x1c\
-            \x00\x00\x02\x00\x04\x80\x00\x80\x00\x00\x00\x00\x00\x00\x00p\x00\x10\x00\x00\x01\x00\x00\x00\x00\x00\x02\x00\x00",
+        words: &[
+            0x80008004, 0, 0x80000006, 0, 0x1c000008, 0x20000, 0x80008004, 0, 0x70000000, 0x1000,
+        ],
         changes: &[],
         status: 0,
         said: b"top: shown from 00001000 to 00001018, 2 instructions, sync\n",
     },
     // the first SYNC has no RESYNC
     Checked {
-        program: b"BRP1\x00\x10\x00\x00\x08\x00\x00\x00\x04\x00\x00\x80\x00\x00\x00\x00\x06\x00\x00\x80\x00\x00\x00\x00\x08\x00\x00\x1c\
-            \x00\x00\x02\x00\x00\x00\xe1q\x00\x10\x00\x00\x01\x00\x00\x00\x00\x00\x02\x00\x00",
+        words: &[
+            0x80000004, 0, 0x80000006, 0, 0x1c000008, 0x20000, 0x71e10000, 0x1000,
+        ],
         changes: &[],
         status: 1,
         said: b"top: differs at 00001000: no resync\n",
     },
     // the loop goes on without another SYNC
     Checked {
-        program: b"BRP1\x00\x10\x00\x00\x08\x00\x00\x00\x04\x80\x00\x80\x00\x00\x00\x00\x06\x00\x00\x80\x00\x00\x00\x00\x08\x00\x00\x1c\
-            \x00\x00\x02\x00\x00\x00\xe1q\x18\x10\x00\x00\x01\x00\x00\x00\x00\x00\x02\x00\x00",
+        words: &[
+            0x80008004, 0, 0x80000006, 0, 0x1c000008, 0x20000, 0x71e10000, 0x1018,
+        ],
         changes: &[],
         status: 1,
         said: b"top: differs at 00001018: no next field\n",
     },
     // a WRITEC goes on where a WRITE ended
     Checked {
-        program: b"BRP1\x00\x10\x00\x00\x09\x00\x00\x00\x04\x80\x00\x80\x00\x00\x00\x00\x06\x00\x00\x80\x00\x00\x00\x00\x04\x00\x00\x18\
-            \x00\x00\x02\x00\x04\x00\x00T\x00\x00\xe1q\x00\x10\x00\x00\x01\x00\x00\x00\x00\x00\x02\x00\x00",
+        words: &[
+            0x80008004, 0, 0x80000006, 0, 0x18000004, 0x20000, 0x54000004, 0x71e10000, 0x1000,
+        ],
         changes: &[],
         status: 1,
         said: b"top: differs at 00001018: writec\n",
     },
     // two lanes are off
     Checked {
-        program: b"BRP1\x00\x10\x00\x00\x08\x00\x00\x00\x04\x80\x00\x80\x00\x00\x00\x00\x06\x00\x00\x80\x00\x00\x00\x00\x08`\x00\x1c\
-            \x00\x00\x02\x00\x00\x00\xe1q\x00\x10\x00\x00\x01\x00\x00\x00\x00\x00\x02\x00\x00",
+        words: &[
+            0x80008004, 0, 0x80000006, 0, 0x1c006008, 0x20000, 0x71e10000, 0x1000,
+        ],
         changes: &[],
         status: 1,
         said: b"top: differs at 00001010: lanes off\n",
     },
     // no SYNC for the bytes
     Checked {
-        program: b"BRP1\x00\x10\x00\x00\x06\x00\x00\x00\x04\x80\x00\x80\x00\x00\x00\x00\x08\x00\x00\x1c\x00\x00\x02\x00\x00\x00\xe1q\
-            \x00\x10\x00\x00\x01\x00\x00\x00\x00\x00\x02\x00\x00",
+        words: &[0x80008004, 0, 0x1c000008, 0x20000, 0x71e10000, 0x1000],
         changes: &[],
         status: 1,
         said: b"top: differs at 00001008: sync fm1 awaited\n",
     },
     // a byte further
     Checked {
-        program: b"BRP1\x00\x10\x00\x00\x08\x00\x00\x00\x04\x80\x00\x80\x00\x00\x00\x00\x06\x00\x00\x80\x00\x00\x00\x00\x08\x00\x00\x1c\
-            \x01\x00\x02\x00\x00\x00\xe1q\x00\x10\x00\x00\x01\x00\x00\x00\x00\x00\x02\x00\x00",
+        words: &[
+            0x80008004, 0, 0x80000006, 0, 0x1c000008, 0x20001, 0x71e10000, 0x1000,
+        ],
         changes: &[],
         status: 1,
         said: b"top: differs at 00001010: row 0, queue 1: byte 0 at 00020000 awaited\n",
     },
     // SOL in a line
     Checked {
-        program: b"BRP1\x00\x10\x00\x00\n\x00\x00\x00\x04\x80\x00\x80\x00\x00\x00\x00\x06\x00\x00\x80\x00\x00\x00\x00\x03\x00\x00\x18\
-            \x00\x00\x02\x00\x05\x00\x00\x1c\x03\x00\x02\x00\x00\x00\xe1q\x00\x10\x00\x00\x01\x00\x00\x00\x00\x00\x02\x00\x00",
+        words: &[
+            0x80008004, 0, 0x80000006, 0, 0x18000003, 0x20000, 0x1c000005, 0x20003, 0x71e10000,
+            0x1000,
+        ],
         changes: &[],
         status: 1,
         said: b"top: differs at 00001018: row 0, queue 1: no sol awaited at byte 3\n",
     },
     // no SOL
     Checked {
-        program: b"BRP1\x00\x10\x00\x00\x08\x00\x00\x00\x04\x80\x00\x80\x00\x00\x00\x00\x06\x00\x00\x80\x00\x00\x00\x00\x08\x00\x00\x14\
-            \x00\x00\x02\x00\x00\x00\xe1q\x00\x10\x00\x00\x01\x00\x00\x00\x00\x00\x02\x00\x00",
+        words: &[
+            0x80008004, 0, 0x80000006, 0, 0x14000008, 0x20000, 0x71e10000, 0x1000,
+        ],
         changes: &[],
         status: 1,
         said: b"top: differs at 00001010: row 0, queue 1: sol awaited\n",
     },
     // no EOL
     Checked {
-        program: b"BRP1\x00\x10\x00\x00\x08\x00\x00\x00\x04\x80\x00\x80\x00\x00\x00\x00\x06\x00\x00\x80\x00\x00\x00\x00\x08\x00\x00\x18\
-            \x00\x00\x02\x00\x00\x00\xe1q\x00\x10\x00\x00\x01\x00\x00\x00\x00\x00\x02\x00\x00",
+        words: &[
+            0x80008004, 0, 0x80000006, 0, 0x18000008, 0x20000, 0x71e10000, 0x1000,
+        ],
         changes: &[],
         status: 1,
         said: b"top: differs at 00001010: row 0, queue 1: eol awaited\n",
     },
     // EOL in a line
     Checked {
-        program: b"BRP1\x00\x10\x00\x00\n\x00\x00\x00\x04\x80\x00\x80\x00\x00\x00\x00\x06\x00\x00\x80\x00\x00\x00\x00\x03\x00\x00\x1c\
-            \x00\x00\x02\x00\x05\x00\x00\x14\x03\x00\x02\x00\x00\x00\xe1q\x00\x10\x00\x00\x01\x00\x00\x00\x00\x00\x02\x00\x00",
+        words: &[
+            0x80008004, 0, 0x80000006, 0, 0x1c000003, 0x20000, 0x14000005, 0x20003, 0x71e10000,
+            0x1000,
+        ],
         changes: &[],
         status: 1,
         said: b"top: differs at 00001010: row 0, queue 1: eol at byte 2 of 8\n",
     },
     // a line more
     Checked {
-        program: b"BRP1\x00\x10\x00\x00\n\x00\x00\x00\x04\x80\x00\x80\x00\x00\x00\x00\x06\x00\x00\x80\x00\x00\x00\x00\x08\x00\x00\x1c\
-            \x00\x00\x02\x00\x08\x00\x00\x1c\x08\x00\x02\x00\x00\x00\xe1q\x00\x10\x00\x00\x01\x00\x00\x00\x00\x00\x02\x00\x00",
+        words: &[
+            0x80008004, 0, 0x80000006, 0, 0x1c000008, 0x20000, 0x1c000008, 0x20008, 0x71e10000,
+            0x1000,
+        ],
         changes: &[],
         status: 1,
         said: b"top: differs at 00001018: nothing awaited\n",
     },
     // bytes of a queue that has none
     Checked {
-        program: b"BRP1\x00\x10\x00\x00\x08\x00\x00\x00\x04\x80\x00\x80\x00\x00\x00\x00\x06\x00\x00\x80\x00\x00\x00\x00\x08\x00\x00\xac\
-            \x04\x00\x00\x00\x00\x00\xe1q\x00\x10\x00\x00\x01\x00\x00\x00\x00\x00\x02\x00\x00",
+        words: &[
+            0x80008004, 0, 0x80000006, 0, 0xac000008, 0x4, 0x71e10000, 0x1000,
+        ],
         changes: &[],
         status: 1,
         said: b"top: differs at 00001010: row 0, queue 1: byte 0 at 00020000 awaited\n",
     },
     // bytes of queue 2 behind all of the line
     Checked {
-        program: b"BRP1\x00\x10\x00\x00\x0b\x00\x00\x00\x04\x80\x00\x80\x00\x00\x00\x00\x06\x00\x00\x80\x00\x00\x00\x00\x08\x00\x00\x9c\
-            \x04\x00\x00\x00\x00\x00\x02\x00\x08\x00\x02\x00\x00\x00\x00\x00\x00\x00\xe1q\x00\x10\x00\x00\x01\x00\x00\x00\x00\x00\x02\x00\
-            \x00",
+        words: &[
+            0x80008004, 0, 0x80000006, 0, 0x9c000008, 0x4, 0x20000, 0x20008, 0, 0x71e10000, 0x1000,
+        ],
         changes: &[],
         status: 1,
         said: b"top: differs at 00001010: queue 2: nothing awaited\n",
@@ -254,8 +270,9 @@ static CHECKED: [Checked; 29] = [
 
 /// Whether `check` prints this, and creates nothing.
 fn checks(alloc: Global, case: &Checked, longest: usize) -> Result<bool, AllocError> {
+    let program = on_page(alloc, case.words)?;
     let description = described(alloc, case.changes)?;
-    let left = checked(alloc, case.program, &description, &[], longest)?;
+    let left = checked(alloc, &program, &description, &[], longest)?;
     Ok(left.says_only(case.status, case.said) && left.has_faults(0, 0))
 }
 
@@ -283,17 +300,19 @@ fn refuses(
 /// The program is checked first, then the description, by its text and its geometry.
 #[test]
 fn checks_are_refused(rt: HostRuntime) -> Result<(), Fail> {
+    let line = one_line(rt.alloc())?;
+    let empty = no_words(rt.alloc())?;
     let said = b"program file: magic at 0\n";
     assert!(rt; refuses(rt.alloc(), FIRST, b"", 3, said)?);
     let said = b"rejected at 00001000, step 0: cut\n";
-    assert!(rt; refuses(rt.alloc(), NO_WORDS, b"", 1, said)?);
+    assert!(rt; refuses(rt.alloc(), &empty, b"", 1, said)?);
     let said = b"description: missing key format\n";
-    assert!(rt; refuses(rt.alloc(), ONE_LINE, b"", 3, said)?);
+    assert!(rt; refuses(rt.alloc(), &line, b"", 3, said)?);
     let said = b"description: not toml\n";
-    assert!(rt; refuses(rt.alloc(), ONE_LINE, ONE_LINE, 3, said)?);
+    assert!(rt; refuses(rt.alloc(), &line, &line, 3, said)?);
     let small = b"format = \"y8\"\nwidth = 8\nheight = 513\nfields = \"top\"\npages = [0x20000]\n";
     let said = b"geometry: too few pages, need 2, have 1\n";
-    assert!(rt; refuses(rt.alloc(), ONE_LINE, small, 1, said)?);
+    assert!(rt; refuses(rt.alloc(), &line, small, 1, said)?);
     Ok(())
 }
 
@@ -314,9 +333,11 @@ fn check_on_says(
 #[test]
 fn an_input_of_a_check_is_missing(rt: HostRuntime) -> Result<(), Fail> {
     assert!(rt; check_on_says(rt.alloc(), &[], 4, b"read fault\n")?);
-    assert!(rt; check_on_says(rt.alloc(), &[ONE_LINE], 4, b"read fault\n")?);
+    let program = one_line(rt.alloc())?;
+    assert!(rt; check_on_says(rt.alloc(), &[&program], 4, b"read fault\n")?);
+    let program = no_words(rt.alloc())?;
     let said = b"rejected at 00001000, step 0: cut\n";
-    assert!(rt; check_on_says(rt.alloc(), &[NO_WORDS], 1, said)?);
+    assert!(rt; check_on_says(rt.alloc(), &[&program], 1, said)?);
     Ok(())
 }
 

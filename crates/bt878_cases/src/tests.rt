@@ -3,36 +3,41 @@ ghost use Rattle.capture_desk.specs.Memory.{all_told};
 
 use crate::calls::{LONG, assembled, is_at_fault, judged, left_by, listed, played, status_of};
 use crate::cases::{
-    JUDGED, Judged, LISTED, ONE_LINE, ONE_LINE_IMAGE, ONE_LINE_REPORT, ONE_LINE_STREAM, Played,
-    UNASSEMBLED, Unplayed, played_cases, unplayed_cases,
+    JUDGED, Judged, LISTED, ONE_LINE_IMAGE, ONE_LINE_REPORT, ONE_LINE_STREAM, Played, UNASSEMBLED,
+    Unplayed, played_cases, unplayed_cases,
 };
 use crate::desks::{Limits, are_parts, desk_of, joined};
 use crate::left::Left;
+use crate::programs::one_line;
 use capture_desk::{MemDesk, OsDesk};
 use std::alloc::{AllocError, Global};
 use std::fs;
 use std::test::Fail;
 
 fn plays(alloc: Global, case: &Played, longest: usize) -> Result<bool, AllocError> {
+    let program = case.program.bytes(alloc)?;
     let stream = joined(alloc, case.stream)?;
-    let left = played(alloc, case.program, &stream, &[], longest)?;
+    let left = played(alloc, &program, &stream, &[], longest)?;
     Ok(left.has(0, case.said, case.image) && left.has_faults(0, 0))
 }
 
 fn refuses(alloc: Global, case: &Unplayed, longest: usize) -> Result<bool, AllocError> {
+    let program = case.program.bytes(alloc)?;
     let stream = joined(alloc, case.stream)?;
-    let left = played(alloc, case.program, &stream, &[], longest)?;
+    let left = played(alloc, &program, &stream, &[], longest)?;
     Ok(left.says_only(case.status, case.said) && left.has_faults(0, 0))
 }
 
 fn lists(alloc: Global, case: &Judged) -> Result<bool, AllocError> {
-    let left = listed(alloc, case.program, &[], LONG)?;
+    let program = case.program.bytes(alloc)?;
+    let left = listed(alloc, &program, &[], LONG)?;
     Ok(left.has(case.status, case.said, &[]))
 }
 
 fn assembles(alloc: Global, case: &Judged, said: &[u8]) -> Result<bool, AllocError> {
+    let program = case.program.bytes(alloc)?;
     let left = assembled(alloc, case.said, &[], LONG)?;
-    Ok(left.says(0, said) && left.wrote("program", case.program))
+    Ok(left.says(0, said) && left.wrote("program", &program))
 }
 
 fn is_no_listing(alloc: Global, text: &[u8], said: &[u8]) -> Result<bool, AllocError> {
@@ -41,7 +46,8 @@ fn is_no_listing(alloc: Global, text: &[u8], said: &[u8]) -> Result<bool, AllocE
 }
 
 fn judges(alloc: Global, case: &Judged) -> Result<bool, AllocError> {
-    let left = judged(alloc, case.program, &[], LONG)?;
+    let program = case.program.bytes(alloc)?;
+    let left = judged(alloc, &program, &[], LONG)?;
     Ok(left.has(case.status, case.said, &[]))
 }
 
@@ -114,7 +120,8 @@ fn is_short(left: &Left, alloc: Global, file: &str, len: usize) -> Result<bool, 
 
 /// Whether the program of a line, cut to this length, is reported as short.
 fn cut_program_is_short(alloc: Global, len: usize) -> Result<bool, AllocError> {
-    let program = ONE_LINE.get(..len).unwrap_or_default();
+    let program = one_line(alloc)?;
+    let program = program.get(..len).unwrap_or_default();
     let left = played(alloc, program, ONE_LINE_STREAM, &[], LONG)?;
     is_short(&left, alloc, "program", len)
 }
@@ -122,13 +129,13 @@ fn cut_program_is_short(alloc: Global, len: usize) -> Result<bool, AllocError> {
 /// Whether its stream, cut to this length, is reported as short.
 fn cut_stream_is_short(alloc: Global, len: usize) -> Result<bool, AllocError> {
     let stream = ONE_LINE_STREAM.get(..len).unwrap_or_default();
-    let left = played(alloc, ONE_LINE, stream, &[], LONG)?;
+    let left = played(alloc, &one_line(alloc)?, stream, &[], LONG)?;
     is_short(&left, alloc, "stream", len)
 }
 
 #[test]
 fn cut_files_are_short(rt: HostRuntime) -> Result<(), Fail> {
-    for len in 0..ONE_LINE.len() {
+    for len in 0..one_line(rt.alloc())?.len() {
         assert!(rt; cut_program_is_short(rt.alloc(), len)?);
     }
     for len in 0..ONE_LINE_STREAM.len() {
@@ -149,7 +156,8 @@ fn fails_alone(left: &Left) -> bool {
 
 /// Whether the call of this number, failing alone, gives this status.
 fn fails_with(alloc: Global, longest: usize, number: u64, status: u8) -> Result<bool, AllocError> {
-    let left = played(alloc, ONE_LINE, ONE_LINE_STREAM, &[number], longest)?;
+    let program = one_line(alloc)?;
+    let left = played(alloc, &program, ONE_LINE_STREAM, &[number], longest)?;
     Ok(left.status == status && fails_alone(&left))
 }
 
@@ -167,7 +175,8 @@ fn failing_calls(alloc: Global, longest: usize, first: u64, status: u8) -> Resul
 
 /// Whether a run does all its work where no call has this number.
 fn is_whole(alloc: Global, longest: usize, number: u64) -> Result<bool, AllocError> {
-    let left = played(alloc, ONE_LINE, ONE_LINE_STREAM, &[number], longest)?;
+    let program = one_line(alloc)?;
+    let left = played(alloc, &program, ONE_LINE_STREAM, &[number], longest)?;
     Ok(left.has(0, ONE_LINE_REPORT, ONE_LINE_IMAGE))
 }
 
@@ -215,7 +224,8 @@ fn run_on_nothing_says(alloc: Global, said: &[u8]) -> Result<bool, AllocError> {
 /// The same file may be both inputs; a program is no stream.
 #[test]
 fn an_input_is_given_twice(rt: HostRuntime) -> Result<(), Fail> {
-    assert!(rt; run_twice_says(rt.alloc(), ONE_LINE, b"stream file: magic at 0\n")?);
+    let program = one_line(rt.alloc())?;
+    assert!(rt; run_twice_says(rt.alloc(), &program, b"stream file: magic at 0\n")?);
     Ok(())
 }
 
@@ -251,7 +261,7 @@ fn words_are_at_fault(rt: HostRuntime) -> Result<(), Fail> {
 
 #[test]
 fn real_files_are_read_and_written(rt: HostRuntime) -> Result<(), Fail> {
-    fs::write(&rt, "one_line.brp", ONE_LINE)?;
+    fs::write(&rt, "one_line.brp", &one_line(rt.alloc())?)?;
     fs::write(&rt, "one_line.bfs", ONE_LINE_STREAM)?;
     let mut desk = OsDesk::new(&rt);
     let words = ["run", "one_line.brp", "one_line.bfs", "one_line.bmi"];

@@ -1,8 +1,9 @@
 // Worked cases of `trace`, and the commands that take no files. What is expected was derived from the rules of the machine.
 
 use crate::calls::{LONG, left_by, traced};
-use crate::cases::{ONE_LINE, ONE_LINE_STREAM};
+use crate::cases::ONE_LINE_STREAM;
 use crate::desks::Limits;
+use crate::programs::one_line;
 use std::alloc::{AllocError, Global};
 use std::test::Fail;
 
@@ -42,20 +43,22 @@ fn traces(
 
 #[test]
 fn a_run_is_traced(rt: HostRuntime) -> Result<(), Fail> {
-    assert!(rt; traces(rt.alloc(), ONE_LINE, ONE_LINE_STREAM, 0, ONE_LINE_TRACE)?);
+    let program = one_line(rt.alloc())?;
+    assert!(rt; traces(rt.alloc(), &program, ONE_LINE_STREAM, 0, ONE_LINE_TRACE)?);
     let nothing = b"turns 0\nmoved 0\noverruns 0 0 0 0\nstatus 00000000\n";
-    assert!(rt; traces(rt.alloc(), ONE_LINE, b"BFS1\x00", 0, nothing)?);
+    assert!(rt; traces(rt.alloc(), &program, b"BFS1\x00", 0, nothing)?);
     Ok(())
 }
 
 /// A stream is read whole before anything is printed.
 #[test]
 fn a_stream_at_fault_is_not_traced(rt: HostRuntime) -> Result<(), Fail> {
+    let program = one_line(rt.alloc())?;
     let late = b"BFS1\x04\x04\x04\x06\x05\x09\x00\x00\x00\x0a";
     assert!(rt;
         traces(
             rt.alloc(),
-            ONE_LINE,
+            &program,
             late,
             3,
             b"stream file: tag 0a at 13\n"
@@ -64,7 +67,7 @@ fn a_stream_at_fault_is_not_traced(rt: HostRuntime) -> Result<(), Fail> {
     assert!(rt;
         traces(
             rt.alloc(),
-            ONE_LINE,
+            &program,
             b"BFS3\x00",
             3,
             b"stream file: magic at 0\n"
@@ -73,7 +76,7 @@ fn a_stream_at_fault_is_not_traced(rt: HostRuntime) -> Result<(), Fail> {
     assert!(rt;
         traces(
             rt.alloc(),
-            ONE_LINE,
+            &program,
             b"BFS1\x05",
             3,
             b"stream file: short at 5\n"

@@ -4,6 +4,7 @@ use capture_desc::read_desc;
 use program_build::{Checked, build, check};
 use std::alloc::Global;
 use std::test::Fail;
+use test_kit::ONE_LINE;
 
 // The first keys of a description of one row of 8 bytes on a page.
 const PLAIN: &str = "format = \"y8\"\nwidth = 8\nheight = 1\nfields = \"top\"\npages = [0x20000]\n";
@@ -37,18 +38,8 @@ fn becomes(alloc: Global, text: &str, words: &[u32]) -> Result<bool, Fail> {
 
 #[test]
 fn programs_of_one_row(rt: HostRuntime) -> Result<(), Fail> {
-    let plain = [
-        0x8000_8004,
-        0,
-        0x8000_0006,
-        0,
-        0x1c00_0008,
-        0x20000,
-        0x71e1_0000,
-        0x1000,
-    ];
-    assert!(rt; builds(rt.alloc(), PLAIN, &plain)?);
-    assert!(rt; becomes(rt.alloc(), PLAIN, &plain)?);
+    assert!(rt; builds(rt.alloc(), PLAIN, &ONE_LINE)?);
+    assert!(rt; becomes(rt.alloc(), PLAIN, &ONE_LINE)?);
     let skipped = [
         0x8000_8004,
         0,

@@ -2,6 +2,7 @@ use ring_compile::{Ring, RingError, RingFault, RingKey, compile_ring, read_ring}
 use risc_verify::Program;
 use std::alloc::{AllocError, Global};
 use std::test::Fail;
+use test_kit::TWO_BLOCKS;
 
 const TWO_LINES: &str = "blocks = 2\nlines = 1\nline_bytes = 8\npages = [0x20000]\n";
 
@@ -12,17 +13,11 @@ fn has_one_page(program: &Program) -> bool {
 
 fn compiles_two_lines(alloc: Global, ring: &Ring) -> Result<bool, AllocError> {
     let program = compile_ring(alloc, ring)?;
-    let words = [
-        0x8000_8006,
-        0,
-        0x1df0_0008,
-        0x20000,
-        0x1de1_0008,
-        0x20008,
-        0x7000_0000,
-        0x1008,
-    ];
-    Ok(program.words() == words.as_slice() && program.base() == 0x1000 && has_one_page(&program))
+    Ok(
+        program.words() == TWO_BLOCKS.as_slice()
+            && program.base() == 0x1000
+            && has_one_page(&program),
+    )
 }
 
 fn ends_two_blocks(ring: &Ring) -> bool {

@@ -15,16 +15,21 @@ use risc_word::Code;
 use std::alloc::{AllocError, Global};
 use std::test::Fail;
 use sync_status::Status;
+use test_kit::brp;
 
-// A line of eight bytes on a page and on a chunk of that length, and a stream that fills it.
-const PAGED: &[u8] =
-    b"BRP1\x00\x10\0\0\x08\0\0\0\x04\x80\0\x80\0\0\0\0\x06\0\0\x80\0\0\0\0\x08\0\0\x1c\0\0\x02\0\0\0\xe1\x71\0\x10\0\0\x01\0\0\0\0\0\x02\0\
-        \0";
+// The program of a line of eight bytes, which are at the front of a chunk.
+fn line_on(alloc: Global, chunk: (u32, u32)) -> Result<Vec<u8>, AllocError> {
+    let words = [
+        0x80008004, 0, 0x80000006, 0, 0x1c000008, chunk.0, 0x71e10000, 0x1000,
+    ];
+    brp(alloc, 0x1000, &words, &[chunk], 0)
+}
 
-const CHUNKED: &[u8] =
-    b"BRP2\x00\x10\0\0\x08\0\0\0\x04\x80\0\x80\0\0\0\0\x06\0\0\x80\0\0\0\0\x08\0\0\x1c\x04\0\x02\0\0\0\xe1\x71\0\x10\0\0\x01\0\0\0\
-        \x04\0\x02\0\x08\0\0\0\0";
+const PAGE: (u32, u32) = (0x20000, 4096);
 
+const CHUNK: (u32, u32) = (0x20004, 8);
+
+// A stream that fills the line.
 const STREAM: &[u8] =
     b"BFS1\x04\x04\x04\x06\x01\x02\x10\x11\x12\x13\x01\x01\x14\x15\x16\x17\x05\x09\0\0\0\0";
 
@@ -96,15 +101,18 @@ fn is_kept(alloc: Global, bytes: &[u8], head: &[u8], len: usize) -> Result<bool,
 
 #[test]
 fn programs_are_written_as_they_were_read(rt: HostRuntime) -> Result<(), Fail> {
-    let paged = b"BMI1\x01\0\0\0\0\0\x02\0";
-    assert!(rt; is_kept(rt.alloc(), PAGED, paged, 4096)?);
-    let chunked = b"BMI2\x01\0\0\0\x04\0\x02\0\x08\0\0\0";
-    assert!(rt; is_kept(rt.alloc(), CHUNKED, chunked, 8)?);
+    let image = b"BMI1\x01\0\0\0\0\0\x02\0";
+    assert!(rt; is_kept(rt.alloc(), &line_on(rt.alloc(), PAGE)?, image, 4096)?);
+    let image = b"BMI2\x01\0\0\0\x04\0\x02\0\x08\0\0\0";
+    assert!(rt; is_kept(rt.alloc(), &line_on(rt.alloc(), CHUNK)?, image, 8)?);
     Ok(())
 }
 
-// Whether a program is too short, at its end.
-fn is_short(alloc: Global, bytes: &[u8]) -> bool {
+// Whether a program that is cut to so many bytes is too short, at its end.
+fn is_short(alloc: Global, program: &[u8], len: usize) -> bool {
+    let Some(bytes) = program.get(..len) else {
+        return false;
+    };
     match read_program(alloc, bytes) {
         Err(ProgramError::File(fault)) => {
             fault.at == bytes.len() as u64 && fault.kind == FileKind::Short
@@ -114,10 +122,12 @@ fn is_short(alloc: Global, bytes: &[u8]) -> bool {
 }
 
 #[test]
-fn cut_programs_are_short(rt: HostRuntime) {
+fn cut_programs_are_short(rt: HostRuntime) -> Result<(), Fail> {
+    let program = line_on(rt.alloc(), PAGE)?;
     for len in [0, 2, 11, 44, 52] {
-        assert!(rt; is_short(rt.alloc(), &PAGED[..len]), "{len}");
+        assert!(rt; is_short(rt.alloc(), &program, len), "{len}");
     }
+    Ok(())
 }
 
 // What a reader answers on a whole piece behind its steps.

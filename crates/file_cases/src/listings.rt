@@ -9,6 +9,7 @@ use risc_word::{Ctl, Instr};
 use std::alloc::Global;
 use std::fmt::Write;
 use std::test::Fail;
+use test_kit::{ONE_LINE, ONE_LINE_LISTING};
 
 // The listing of words from 0x1000 on that may write one chunk.
 fn listed(alloc: Global, words: &[u32], chunk: (u32, u32), fill: u8) -> Result<Vec<u8>, Fail> {
@@ -26,26 +27,9 @@ const PAGE: (u32, u32) = (0x20000, 4096);
 
 #[test]
 fn programs_are_listed(rt: HostRuntime) -> Result<(), Fail> {
-    let capture = [
-        0x8000_8004,
-        0,
-        0x8000_0006,
-        0,
-        0x1c00_0008,
-        0x20000,
-        0x71e1_0000,
-        0x1000,
-    ];
-    let lines = b"base 00001000\n\
-        00001000 sync vre resync\n\
-        00001008 sync fm1\n\
-        00001010 write sol eol 8 00020000\n\
-        00001018 jump irq set=1 reset=e 00001000\n\
-        page 00020000\n\
-        fill 00\n";
     assert_eq!(rt;
-        listed(rt.alloc(), &capture, PAGE, 0)?.as_slice(),
-        lines.as_slice()
+        listed(rt.alloc(), &ONE_LINE, PAGE, 0)?.as_slice(),
+        ONE_LINE_LISTING
     );
     let operand = [0x8000_8004, 0x1000_0004, 0x7000_0000, 0x1004];
     let lines = b"base 00001000\n\

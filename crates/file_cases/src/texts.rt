@@ -3,26 +3,7 @@ use risc_asm::{AsmError, AsmFault, assemble};
 use risc_listing::list;
 use std::alloc::{AllocError, Global};
 use std::test::Fail;
-
-// The program of four instructions, and its listing.
-const WORDS: [u32; 8] = [
-    0x8000_8004,
-    0,
-    0x8000_0006,
-    0,
-    0x1c00_0008,
-    0x20000,
-    0x71e1_0000,
-    0x1000,
-];
-
-const LISTING: &[u8] = b"base 00001000\n\
-    00001000 sync vre resync\n\
-    00001008 sync fm1\n\
-    00001010 write sol eol 8 00020000\n\
-    00001018 jump irq set=1 reset=e 00001000\n\
-    page 00020000\n\
-    fill 00\n";
+use test_kit::{ONE_LINE, ONE_LINE_LISTING};
 
 fn is_listed_as(alloc: Global, file: &ProgramFile, text: &[u8]) -> bool {
     match list(alloc, &file.program, file.fill) {
@@ -42,14 +23,14 @@ fn is_judged(alloc: Global, text: &[u8], want: Option<AsmFault>) -> bool {
 
 // Whether a file is the program of four instructions.
 fn has_four_instructions(file: &ProgramFile) -> bool {
-    file.program.words() == WORDS.as_slice()
+    file.program.words() == ONE_LINE.as_slice()
         && file.program.base() == 0x1000
         && file.program.grants().len() == 1
         && file.fill == 0
 }
 
 fn assembles_four_instructions(alloc: Global) -> bool {
-    match assemble(alloc, LISTING) {
+    match assemble(alloc, ONE_LINE_LISTING) {
         Ok(file) => has_four_instructions(&file),
         Err(_) => false,
     }

@@ -14,6 +14,7 @@ use std::marker::Brand;
 use std::sync::ledger::{Blank, Ledger};
 use std::test::Fail;
 use sync_status::{Status, StatusKind, kind};
+use test_kit::ONE_LINE;
 
 #[derive(Clone, Copy)]
 enum Action {
@@ -30,17 +31,6 @@ enum Action {
 
 use Action::{Both, Control, Fill, Host, Push, Through, Turns};
 use Queue::{One, Three, Two};
-
-const ONE_LINE: [u32; 8] = [
-    0x8000_8004,
-    0,
-    0x8000_0006,
-    0,
-    0x1c00_0008,
-    0x20000,
-    0x71e1_0000,
-    0x1000,
-];
 
 // A program of at most 16 words that may write one page, verified.
 fn accepted<L: Ledger>(alloc: Global, words: &[u32], blank: Blank) -> Result<Accepted, Fail>

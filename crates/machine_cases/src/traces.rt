@@ -9,6 +9,7 @@ use risc_word::Code;
 use std::alloc::Global;
 use std::test::Fail;
 use sync_status::{Status, StatusKind, kind};
+use test_kit::ONE_LINE;
 use turn_trace::{LONGEST_STEP, Trace};
 
 #[derive(Clone, Copy)]
@@ -21,18 +22,6 @@ enum Step {
 
 use Queue::{One, Three, Two};
 use Step::{Control, Host, Push, Turns};
-
-// A line of eight bytes behind VRE and FM1, and the signal of the top field.
-const ONE_LINE: [u32; 8] = [
-    0x8000_8004,
-    0,
-    0x8000_0006,
-    0,
-    0x1c00_0008,
-    0x20000,
-    0x71e1_0000,
-    0x1000,
-];
 
 // A line of which six bytes are written, and one more is skipped.
 const TWO_PARTS: [u32; 9] = [

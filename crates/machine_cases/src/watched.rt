@@ -10,6 +10,7 @@ use risc_word::Code;
 use std::alloc::Global;
 use std::test::Fail;
 use sync_status::{Status, StatusKind, kind};
+use test_kit::TWO_BLOCKS;
 
 // A line of twelve bytes behind VRE and FM1, and the signal of the top field.
 const LINE: [u32; 8] = [
@@ -23,19 +24,8 @@ const LINE: [u32; 8] = [
     0x1000,
 ];
 
-// A ring of two blocks, each of one line of eight bytes: a WRITE for each behind FM1, and the JUMP behind the SYNC.
+// The ring of `TWO_BLOCKS`.
 const RING: &[u8] = b"blocks = 2\nlines = 1\nline_bytes = 8\npages = [0x20000]\nfill = 7\n";
-
-const RING_WORDS: [u32; 8] = [
-    0x8000_8006,
-    0,
-    0x1df0_0008,
-    0x20000,
-    0x1de1_0008,
-    0x20008,
-    0x7000_0000,
-    0x1008,
-];
 
 // Three lines of eight bytes.
 const LINES: [(u8, u32); 6] = [
@@ -91,7 +81,7 @@ fn ring(alloc: Global) -> Result<Ring, Fail> {
 
 fn ring_machine(alloc: Global) -> Result<RingMachine<MapRam>, Fail> {
     let ring = ring(alloc)?;
-    let machine = made(alloc, &RING_WORDS, ring.fill())?;
+    let machine = made(alloc, &TWO_BLOCKS, ring.fill())?;
     Ok(Watched::new(machine, BlockCount::new(ring)))
 }
 
