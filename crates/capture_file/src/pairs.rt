@@ -38,8 +38,8 @@ fn is_valid_push(queue: Queue, bytes: &[u8]) -> bool
     LittleEndian::read_u16(bytes) == u16::from(push_tag(queue))
 }
 
-/// The DWORD and the turns of the pair at the front of some bytes, which begin with a push of four valid bytes, where so many turns are left
-/// to the stream.
+/// The DWORD and the turns of the pair at the front of some bytes, where so many turns are left to the stream. The bytes begin with a push
+/// of four valid bytes.
 #[inline(always)]
 fn dword_and_turns(left: u32, bytes: &[u8]) -> Option<(u32, u32)>
     requires few { left ≤ most_turns }
