@@ -19,3 +19,4 @@ pub mod KeptRead
 pub mod Imaged
 pub mod Growing
 pub mod Faults
+pub mod PushRuns

@@ -60,7 +60,7 @@ tag_of_kind form tag =
 
 -- ---- what the fields are
 
-abbrev Shows : ℕ → List ℕ → Found → Type 0
+abbrev pub Shows : ℕ → List ℕ → Found → Type 0
 Shows tag rest (Whole (Push queue entry) len) = (tag ≡ push_tag queue) × (get_or rest 0 0 ≡ entry.status)
 Shows tag rest (Whole (Turns count) len) = (tag ≡ 5) × (number_at rest ≡ Some count)
 Shows tag rest _ = Unit {0}
@@ -141,7 +141,7 @@ shows_fields kind.Trigger tag turns rest is = shows_trigger tag rest
 shows_fields kind.Patch tag turns rest is = shows_patch tag rest
 shows_fields kind.Unknown tag turns rest is = tt
 
-record_shows : (form : Form) (turns tag : ℕ) (rest : List ℕ) → Shows tag rest (record_at form turns (tag ∷ rest))
+pub record_shows : (form : Form) (turns tag : ℕ) (rest : List ℕ) → Shows tag rest (record_at form turns (tag ∷ rest))
 record_shows form turns tag rest = shows_fields (kind_of_tag form tag) tag turns rest (tag_of_kind form tag)
 
 -- ---- the bytes of a pair

@@ -23,7 +23,7 @@ use Rattle.capture_file.proofs.Resumed.{reader}
 
 -- ---- a pair
 
-tagged : (form : Form) (queue : Queue) → kind_of_tag form (push_tag queue) ≡ kind.Push queue
+pub tagged : (form : Form) (queue : Queue) → kind_of_tag form (push_tag queue) ≡ kind.Push queue
 tagged form One = refl
 tagged form Two = refl
 tagged form Three = refl
@@ -112,7 +112,7 @@ one_copied queue before bytes dword turns is = record { there = (is, tt); many =
 -- ---- a reader takes them
 
 -- between two records
-abbrev between : ℕ → Bool → Form → ℕ → ℕ → Reader
+abbrev pub between : ℕ → Bool → Form → ℕ → ℕ → Reader
 between limit chained form place turns = reader limit chained (Records form) place turns []
 
 is_between : (limit : ℕ) (chained : Bool) (form : Form) (place turns : ℕ) → place ≤ limit → turns ≤ most_turns →
@@ -120,7 +120,7 @@ is_between : (limit : ℕ) (chained : Bool) (form : Form) (place turns : ℕ) �
 is_between limit chained form place turns below few = record { below = below; at = (omega arith, refl, few) }
 
 -- a record at the front of a piece that ends below the limit
-one_taken : (limit : ℕ) (chained : Bool) (form : Form) (place turns : ℕ) (piece : List ℕ) (step : Step) (len : ℕ) → place ≤ limit →
+pub one_taken : (limit : ℕ) (chained : Bool) (form : Form) (place turns : ℕ) (piece : List ℕ) (step : Step) (len : ℕ) → place ≤ limit →
     turns ≤ most_turns → place + length piece ≤ limit →
     len ≤ length piece → StepFits step → record_at form turns piece ≡ Whole step len → (more : List ℕ) →
     resumed (between limit chained form place turns) (piece ++ more)

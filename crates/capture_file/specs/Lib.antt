@@ -4,3 +4,4 @@ pub mod Readers
 pub mod Pairs
 pub mod Programs
 pub mod Images
+pub mod Pushes

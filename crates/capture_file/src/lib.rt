@@ -10,6 +10,7 @@ mod kept;
 mod laws;
 mod pairs;
 mod program;
+mod pushes;
 mod reader;
 mod records;
 pub mod tags;

@@ -4,16 +4,20 @@ ghost use Rattle.capture_file.specs.Readers.{AnswerFits, Closed, Failed, Opening
 ghost use Rattle.capture_file.specs.Readers.{after_answer, behind_word, closed_by, closed_taken, ending_in};
 ghost use Rattle.capture_file.specs.Readers.{fresh, record_taken, resumed, room, taken, taking, word_taken, Takes, front_record};
 ghost use Rattle.capture_file.specs.Pairs.{AreAll, IsBetween, NoPair, TakesPairs};
+ghost use Rattle.capture_file.specs.Pushes.{NoPlainPush, TakesPushes};
 ghost use Rattle.capture_file.specs.Records.{FoundFits, HasFour, Passes, Spans, StepFits, Sums, push_in, turns_in};
 ghost use Rattle.capture_file.specs.declared.FileFault.{FileFault};
 ghost use Rattle.capture_file.specs.declared.records.Found.TheVariants.{Cut};
 ghost use Rattle.capture_file.specs.Streams.{Bad, fault_at, most_turns, number_at, reading, record_at, stream_of, turns_of};
 ghost use Rattle.std.specs.Prelude.{◌≡◌, ◌≤◌, ◌<◌, ◌+◌, ◌-◌, ◌*◌, ◌^◌, ◌++◌, List, ℕ, [], None, IfSome, IfNone, take, drop, length, true};
 ghost use Rattle.std.specs.Prelude.{false, ◌∷◌};
+ghost use Rattle.fifo_model.specs.declared.Entry.{Entry as EntryOf};
+ghost use Rattle.fifo_model.specs.declared.Queue.{Queue as QueueOf};
 ghost use Rattle.fifo_model.specs.Queues.{lane_bytes};
 ghost use Rattle.machine_model.specs.PlainEntries.{plain_entry};
 
 use super::pairs::{any_pair_at, copy_pairs};
+use super::pushes::count_pushes;
 use super::records::{Form, Found, MOST_TURNS, find, find_push, find_turns, form_named, number};
 use super::{FileFault, FileKind, Step};
 use fifo_model::{Entry, Queue};
@@ -495,6 +499,25 @@ impl StepReader {
         self.room -= 11;
         self.turns += turns;
         Some((queue, entry, turns))
+    }
+
+    /// Takes data pushes with the status PixelsValid, to whichever queues, whose records, of 6 bytes each, lie whole at the front of the
+    /// piece: how many, and how many to queues 1, 2 and 3. It takes all that are there. None where a record is under way, or where the
+    /// limit is within the piece.
+    #[inline]
+    pub fn take_pushes(&mut self, piece: &[u8]) -> (usize, [usize; 3])
+        ensures taken { (pushes : List (QueueOf × EntryOf)) × TakesPushes result.0 result.1 self.old piece.now self.new pushes }
+        ensures all { IsBetween self.old piece.now → NoPlainPush (drop (6 * result.0) piece.now) }
+        ensures none { (IsBetween self.old piece.now → ⊥) → result.0 ≡ 0 }
+    {
+        if let State::Between(_) = self.state
+            && piece.len() as u64 <= self.room
+        {
+            let (count, counts) = count_pushes(piece);
+            self.room -= 6 * count as u64;
+            return (count, counts);
+        }
+        (0, [0; 3])
     }
 
     fn closing(&self) -> Result<(), FileFault>

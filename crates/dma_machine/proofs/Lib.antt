@@ -19,3 +19,4 @@ pub mod PlainRuns
 pub mod PlainRoom
 pub mod PlainPushes
 pub mod OpenFalls
+pub mod LostPushes

@@ -1,6 +1,6 @@
--- Every step leaves the queues with room for the entries that make them ready.
+-- Every step leaves the queues with the room that they have.
 use Rattle.std.proofs.Common.{◌≡◌, ℕ, zero, suc, ◌+◌, ◌*◌, ◌^◌, ◌<◌, ◌≤◌, Bool, true, false, List, [], ◌∷◌, Option, Some, None, Ok, Err}
-use Rattle.std.proofs.Common.{refl, sym, subst, arith, if◌then◌else◌, ◌==◌}
+use Rattle.std.proofs.Common.{refl, ◌∙◌, arith, if◌then◌else◌, ◌==◌}
 use Rattle.risc_word.specs.declared.Code.{Code}
 use Rattle.risc_word.specs.declared.Ctl.{Ctl}
 use Rattle.risc_word.specs.declared.Instr.{Instr}
@@ -74,9 +74,9 @@ sees (Some seen) ctl resync code m h = meets _ ctl resync m h
 -- a queue is another, of the same capacity
 replaced : (q : Queue) (held : QueueState) (trigger : ℕ) (queues : Queues) → held.capacity ≡ (queue_state q queues).capacity →
     HaveRoom trigger queues → HaveRoom trigger (with_queue_state q held queues)
-replaced One held trigger queues e h = record { most = h.most; one = subst (λ n. 32 ≤ n) (sym e) h.one; two = h.two; three = h.three }
-replaced Two held trigger queues e h = record { most = h.most; one = h.one; two = subst (λ n. 32 ≤ n) (sym e) h.two; three = h.three }
-replaced Three held trigger queues e h = record { most = h.most; one = h.one; two = h.two; three = subst (λ n. 32 ≤ n) (sym e) h.three }
+replaced One held trigger queues e h = record { most = h.most; one = e ∙ h.one; two = h.two; three = h.three }
+replaced Two held trigger queues e h = record { most = h.most; one = h.one; two = e ∙ h.two; three = h.three }
+replaced Three held trigger queues e h = record { most = h.most; one = h.one; two = h.two; three = e ∙ h.three }
 
 drops : (stray : Option Queue) (ctl : Ctl) (resync : Bool) (code : Code) (m : State) → Has m → Has (stray_seen stray ctl resync code m)
 drops None ctl resync code m h = sees _ ctl resync code m h

@@ -8,3 +8,4 @@ pub mod Counts
 pub mod Noted
 pub mod Looks
 pub mod Plain
+pub mod Lost

@@ -5,11 +5,14 @@
 ghost use Rattle.dma_machine.specs.Counts.{acted, acted_times, with_turns};
 ghost use Rattle.dma_machine.specs.FallThrough.{MovesWhole, falls_through};
 ghost use Rattle.dma_machine.specs.Facts.{IsMachine, report_of};
+ghost use Rattle.dma_machine.specs.Lost.{counts_of, loses_all, pushes};
 ghost use Rattle.dma_machine.specs.Looks.{CanGoOn, RetiresAt, holds, next_drop, next_fetch, next_retirement};
 ghost use Rattle.dma_machine.specs.Plain.{AreRun, AreTaken, plain_room};
 ghost use Rattle.machine_model.specs.Paths.{RiscProgram};
 ghost use Rattle.machine_model.specs.PlainEntries.{plain_steps};
 ghost use Rattle.dma_machine.specs.Stills.{is_still};
+ghost use Rattle.fifo_model.specs.declared.Entry.{Entry as EntryOf};
+ghost use Rattle.fifo_model.specs.declared.Queue.{Queue as QueueOf};
 ghost use Rattle.fifo_model.specs.Queues.{empty_queues, max_capacity, more, empty_fifo, queue_state};
 ghost use Rattle.irq_status.specs.Register.{has_ocerr};
 ghost use Rattle.irq_status.specs.Writes.{IsWrite};
@@ -26,6 +29,7 @@ ghost use Rattle.sync_status.specs.Statuses.{is_control, kind_of};
 mod engine;
 mod fetching;
 mod host;
+mod lost;
 mod opening;
 mod parts;
 mod plain;
@@ -395,6 +399,29 @@ impl<R: Ram> Machine<R> {
         ensures facts { IsMachine self.new }
     {
         self.engine.push_plain(q, dwords, turns)
+    }
+
+    /// Whether each data push is lost until a turn or a write of the host comes: the FIFO is enabled, and all queues are full.
+    #[inline]
+    pub fn loses_all(&self) -> bool
+        ensures loses { result ≡ loses_all self.now }
+        ensures facts { IsMachine self.now }
+    {
+        self.engine.loses_all()
+    }
+
+    /// So many pushes of data entries to queues 1, 2 and 3, each of which is lost. Whatever the entries are and however the pushes
+    /// follow one another, the machine is as after all of them: the counts of overruns rise, and FBUS is raised.
+    #[inline]
+    pub fn push_lost(&mut self, lost: [usize; 3])
+        requires { loses_all self.old ≡ true }
+        ensures state { (entries : List (QueueOf × EntryOf)) → counts_of entries ≡ lost → self.new ≡ run self.old (pushes entries) }
+        ensures facts { IsMachine self.new }
+    {
+        let [one, two, three] = lost;
+        self.engine.lose_times(Queue::One, one);
+        self.engine.lose_times(Queue::Two, two);
+        self.engine.lose_times(Queue::Three, three);
     }
 
     /// So many turns of a machine that stands still: beside being counted they do nothing.

@@ -236,6 +236,29 @@ fn pairs_are_taken_off_a_piece(rt: HostRuntime) {
     assert!(rt; takes_pairs(&mut StepReader::new(20), Queue::One, 3, (0, 0), &[0; 12]));
 }
 
+// Two pushes to queue 3, one to queue 1, one to queue 2 that ends its line, and one to queue 1.
+const PUSHES: &[u8] =
+    b"\x03\0\x10\x11\x12\x13\x03\0\x14\x15\x16\x17\x01\0\x20\x21\x22\x23\x02\x01\x30\x31\x32\x33\x01\0\x40\x41\x42\x43";
+
+fn takes_pushes(reader: &mut StepReader, piece: &[u8], want: (usize, [usize; 3])) -> bool {
+    let (count, counts) = reader.take_pushes(piece);
+    count == want.0 && counts == want.1
+}
+
+// The push that ends its line stands for itself.
+#[test]
+fn pushes_are_counted_off_a_piece(rt: HostRuntime) {
+    let mut reader = StepReader::new(100);
+    assert!(rt; takes_pushes(&mut reader, PUSHES, (0, [0; 3])));
+    assert!(rt; takes(&mut reader, b"BFS1", (4, Got::More)));
+    assert!(rt; takes_pushes(&mut reader, PUSHES, (3, [1, 0, 2])));
+    assert!(rt; takes_pushes(&mut reader, &PUSHES[18..], (0, [0; 3])));
+    // the last one is cut short
+    assert!(rt; takes_pushes(&mut reader, &PUSHES[..11], (1, [0, 0, 1])));
+    // the limit is within the piece
+    assert!(rt; takes_pushes(&mut StepReader::new(20), PUSHES, (0, [0; 3])));
+}
+
 // A pair for each queue, and a push without a turn.
 const MIXED: &[u8] =
     b"\x03\0\x10\x11\x12\x13\x05\x02\0\0\0\x01\0\x20\x21\x22\x23\x05\x01\0\0\0\x02\0\x30\x31\x32\x33\x05\x04\0\0\0\x01\0\x40\x41\x42\x43\

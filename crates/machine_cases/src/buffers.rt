@@ -224,3 +224,30 @@ fn a_fragment_in_each_slot(rt: HostRuntime) -> Result<(), Fail> {
     assert!(rt; has_both_lines(&buffer, 18));
     Ok(())
 }
+
+fn fill(buffer: &mut DoubleBuffer<PageRam>, queue: Queue, count: u32) {
+    let status = Status::of(0);
+    for dword in 0..count {
+        buffer.push(queue, Entry { status, dword });
+    }
+}
+
+// One push to queue 1 is lost, and two to queue 3.
+fn loses_three(buffer: &mut DoubleBuffer<PageRam>) -> bool {
+    if !buffer.loses_all() {
+        return false;
+    }
+    buffer.push_lost([1, 0, 2]);
+    buffer.report().overruns == [1, 0, 2, 0]
+}
+
+#[test]
+fn pushes_that_a_chain_loses(rt: HostRuntime) -> Result<(), Fail> {
+    let mut buffer = made(rt.alloc())?;
+    fill(&mut buffer, Queue::One, 70);
+    fill(&mut buffer, Queue::Two, 35);
+    assert!(rt; !buffer.loses_all());
+    fill(&mut buffer, Queue::Three, 35);
+    assert!(rt; loses_three(&mut buffer));
+    Ok(())
+}

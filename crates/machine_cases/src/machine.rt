@@ -454,6 +454,26 @@ fn pushes_to_full_queues_are_lost(rt: HostRuntime) -> Result<(), Fail> {
     Ok(())
 }
 
+// Where each queue is full, pushes only count.
+fn loses_six(m: &mut Machine<MapRam>) -> bool {
+    if !m.loses_all() {
+        return false;
+    }
+    m.push_lost([1, 2, 3]);
+    m.loses_all()
+}
+
+#[test]
+fn pushes_to_three_full_queues_are_counted(rt: HostRuntime) -> Result<(), Fail> {
+    let mut m = made(rt.alloc(), &ONE_LINE, 0)?;
+    play(&mut m, &[Fill(One, 70), Fill(Two, 35), Fill(Three, 34)]);
+    assert!(rt; !m.loses_all());
+    assert!(rt; reports(&mut m, &[Fill(Three, 1)], &report(0, 0, [0; 4], 0)));
+    assert!(rt; loses_six(&mut m));
+    assert!(rt; reports(&mut m, &[], &report(0, 0, [1, 2, 3, 0], 0x1000)));
+    Ok(())
+}
+
 // A host stops the machine and starts it again.
 #[test]
 fn a_push_to_queues_that_are_off_is_lost(rt: HostRuntime) -> Result<(), Fail> {

@@ -72,6 +72,31 @@ fn a_machine_that_nobody_watches(rt: HostRuntime) -> Result<(), Fail> {
     Ok(())
 }
 
+// Queue 1 takes 70 entries and loses the next, queues 2 and 3 take 35 each; six more are lost.
+fn loses_seven(m: &mut Watched<MapRam, ()>) -> bool {
+    let status = Status::of(0);
+    for dword in 0..71 {
+        m.push(Queue::One, Entry { status, dword });
+    }
+    for dword in 0..35 {
+        m.push(Queue::Two, Entry { status, dword });
+        m.push(Queue::Three, Entry { status, dword });
+    }
+    if !m.loses_all() {
+        return false;
+    }
+    m.push_lost([1, 2, 3]);
+    m.report().overruns == [2, 2, 3, 0]
+}
+
+#[test]
+fn lost_pushes_to_a_machine_that_nobody_watches(rt: HostRuntime) -> Result<(), Fail> {
+    let mut m = Watched::new(made(rt.alloc(), &LINE, 0)?, ());
+    assert!(rt; !m.loses_all());
+    assert!(rt; loses_seven(&mut m));
+    Ok(())
+}
+
 fn ring(alloc: Global) -> Result<Ring, Fail> {
     match read_ring(alloc, RING) {
         Ok(ring) => Ok(ring),

@@ -13,6 +13,7 @@ use Rattle.machine_model.specs.Turns.{turn}
 use Rattle.machine_model.proofs.ProgramStays.{program-step}
 use Rattle.machine_model.proofs.Runs.{run-append}
 use Rattle.dma_machine.specs.FallThrough.{MovesWhole, moved_whole}
+use Rattle.dma_machine.specs.Lost.{pushes}
 use Rattle.dma_machine.specs.Stills.{is_still}
 use Rattle.dma_machine.proofs.Standing.{is_still-turns}
 use Rattle.dma_machine.proofs.StillSeen.{still_counts, still_seen}
@@ -61,6 +62,15 @@ module _ {K : Type 0} (notes : Notes K) where
       ∙ ap (λ (n : ℕ). watched notes (replicate n Turn) (watching after kept)) rest
       ∙ ap₂ (λ (a : State) (x : K). watched notes (replicate count Turn) (watching a x)) made
       (keeps ∙ ap (λ (s : Seen). notes.saw (push q entry m).program s k) (sym moves))
+
+  -- pushes leave what is kept as it is
+  pushes_keep : (entries : List (Queue × Entry)) (m : State) (k : K) → kept_after notes m (pushes entries) k ≡ k
+  pushes_keep [] m k = refl
+  pushes_keep (pushed ∷ later) m k = pushes_keep later (push pushed.0 pushed.1 m) k
+
+  pub pushes_watched : (entries : List (Queue × Entry)) (m after : State) (k : K) → after ≡ run m (pushes entries) →
+      watching after k ≡ watched notes (pushes entries) (watching m k)
+  pushes_watched entries m after k ran = ap₂ (λ (a : State) (x : K). watching a x) ran (sym (pushes_keep entries m k))
 
   -- nothing is kept of a turn that does nothing
   module _ (still_tells_nothing : (program : RiscProgram) (s : Seen) (k : K) → s.did ≡ Still → notes.saw program s k ≡ k) where

@@ -1,8 +1,11 @@
 //! A machine that is watched.
 
-ghost use Rattle.std.specs.Prelude.{◌≡◌, ◌<◌, ◌≤◌, ◌*◌, ◌∷◌, [], List, false, length, replicate, ℕ};
+ghost use Rattle.std.specs.Prelude.{◌≡◌, ◌<◌, ◌≤◌, ◌*◌, ◌∷◌, [], List, false, length, replicate, true, ℕ};
 ghost use Rattle.dma_machine.specs.Facts.{report_of};
+ghost use Rattle.dma_machine.specs.Lost.{counts_of, loses_all, pushes};
 ghost use Rattle.dma_machine.specs.Plain.{AreRun};
+ghost use Rattle.fifo_model.specs.declared.Entry.{Entry as EntryOf};
+ghost use Rattle.fifo_model.specs.declared.Queue.{Queue as QueueOf};
 ghost use Rattle.machine_model.specs.PlainEntries.{plain_steps};
 ghost use Rattle.irq_status.specs.Writes.{IsWrite};
 ghost use Rattle.machine_model.specs.Steps.{Control, Host, Push, Turn, control_pushed_as, pushed_as};
@@ -85,6 +88,23 @@ impl<R: Ram, W: Watch> Watched<R, W> {
         if self.machine.push_plain(queue, dwords, turns) {
             self.watch.took_whole(queue);
         }
+    }
+
+    /// Whether each data push is lost, as `Machine::loses_all`.
+    #[inline]
+    pub fn loses_all(&self) -> bool
+        ensures { result ≡ loses_all self.now.machine }
+    {
+        self.machine.loses_all()
+    }
+
+    /// So many pushes of data entries to queues 1, 2 and 3, each of which is lost, as `Machine::push_lost`.
+    #[inline]
+    pub fn push_lost(&mut self, lost: [usize; 3])
+        requires { loses_all self.old.machine ≡ true }
+        ensures { (entries : List (QueueOf × EntryOf)) → counts_of entries ≡ lost → self.new ≡ watched W.notes (pushes entries) self.old }
+    {
+        self.machine.push_lost(lost);
     }
 
     /// A push of a control code, as `Machine::push_control`.

@@ -16,3 +16,4 @@ pub mod Pairs
 mod Behind
 pub mod Plays
 pub mod Promising
+pub mod LostPushes

@@ -117,11 +117,14 @@ impl DoubleBuffer<PageRam> {
 }
 
 impl<R: Ram> DoubleBuffer<R> {
-    ghost use Rattle.std.specs.Prelude.{◌≡◌, ◌*◌, ◌<◌, ◌≤◌, List, length, ℕ};
+    ghost use Rattle.std.specs.Prelude.{◌≡◌, ◌*◌, ◌<◌, ◌≤◌, List, length, true, ℕ};
     ghost use Rattle.capture_file.specs.declared.Step.TheVariants as Step;
     ghost use Rattle.capture_file.specs.Records.{StepFits};
     ghost use Rattle.dma_machine.specs.Facts.{report_of};
+    ghost use Rattle.dma_machine.specs.Lost.{counts_of, loses_all, pushes};
     ghost use Rattle.dma_machine.specs.Plain.{AreRun, plain_room};
+    ghost use Rattle.fifo_model.specs.declared.Entry.{Entry as EntryOf};
+    ghost use Rattle.fifo_model.specs.declared.Queue.{Queue as QueueOf};
     ghost use Rattle.machine_model.specs.PlainEntries.{plain_steps};
     ghost use Rattle.machine_model.specs.Steps.{control_pushed_as, pushed_as};
     ghost use Rattle.slot_chain.specs.States.{stepped};
@@ -171,6 +174,24 @@ impl<R: Ram> DoubleBuffer<R> {
         ensures { (entries : List (ℕ × ℕ)) → AreRun dwords.now turns entries → self.new ≡ stepped (plain_steps queue entries) self.old }
     {
         self.running.push_plain(queue, dwords, turns);
+    }
+
+    /// Whether each data push is lost, as `Machine::loses_all`.
+    #[inline]
+    pub fn loses_all(&self) -> bool
+        ensures { result ≡ loses_all self.now.live.machine }
+    {
+        self.running.loses_all()
+    }
+
+    /// So many pushes of data entries to queues 1, 2 and 3, each of which is lost, as `Machine::push_lost`.
+    #[inline]
+    pub fn push_lost(&mut self, lost: [usize; 3])
+        requires loses { loses_all self.old.live.machine ≡ true }
+        requires counted { (entries : List (QueueOf × EntryOf)) × (counts_of entries ≡ lost) }
+        ensures { (entries : List (QueueOf × EntryOf)) → counts_of entries ≡ lost → self.new ≡ stepped (pushes entries) self.old }
+    {
+        self.running.push_lost(lost);
     }
 
     /// A write of the host to a register.

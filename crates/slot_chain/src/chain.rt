@@ -99,7 +99,10 @@ impl<R: Ram> Chain<R> {
     ghost use Rattle.irq_status.specs.Writes.{IsWrite};
     ghost use Rattle.machine_model.specs.Steps.{Control, Host, Push, Turn, control_pushed_as, pushed_as};
     ghost use Rattle.dma_machine.specs.Facts.{report_of};
+    ghost use Rattle.dma_machine.specs.Lost.{counts_of, loses_all, pushes};
     ghost use Rattle.dma_machine.specs.Plain.{AreRun, plain_room};
+    ghost use Rattle.fifo_model.specs.declared.Entry.{Entry as EntryOf};
+    ghost use Rattle.fifo_model.specs.declared.Queue.{Queue as QueueOf};
     ghost use Rattle.dma_machine.specs.Stills.{is_still};
     ghost use Rattle.machine_model.specs.PlainEntries.{plain_steps};
     ghost use Rattle.chain_model.specs.Chains.{Belongs};
@@ -164,6 +167,24 @@ impl<R: Ram> Chain<R> {
         ensures { (entries : List (ℕ × ℕ)) → AreRun dwords.now turns entries → self.new ≡ stepped (plain_steps q entries) self.old }
     {
         self.wheel.machine.push_plain(q, dwords, turns);
+    }
+
+    /// Whether each data push is lost, as `Machine::loses_all`.
+    #[inline]
+    pub fn loses_all(&self) -> bool
+        ensures { result ≡ loses_all self.now.live.machine }
+    {
+        self.wheel.machine.loses_all()
+    }
+
+    /// So many pushes of data entries to queues 1, 2 and 3, each of which is lost, as `Machine::push_lost`.
+    #[inline]
+    pub fn push_lost(&mut self, lost: [usize; 3])
+        requires loses { loses_all self.old.live.machine ≡ true }
+        requires counted { (entries : List (QueueOf × EntryOf)) × (counts_of entries ≡ lost) }
+        ensures { (entries : List (QueueOf × EntryOf)) → counts_of entries ≡ lost → self.new ≡ stepped (pushes entries) self.old }
+    {
+        self.wheel.machine.push_lost(lost);
     }
 
     /// So many turns of a machine that stands still.

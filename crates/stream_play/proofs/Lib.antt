@@ -9,3 +9,4 @@ pub mod Chains
 pub mod Watches
 mod PlainPairs
 mod PushedPairs
+pub mod LostPushes

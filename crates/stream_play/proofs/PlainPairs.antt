@@ -41,7 +41,7 @@ are_run queue before count sum bytes dwords pairs h =
 -- ---- a player takes them
 
 module _ {S : Type 0} (act : Step → S → S) where
-  GoesOn-steps : (steps : List Step) (p : S) (left : Reading) → GoesOn act p (behind steps left) (acted act steps p) left
+  pub GoesOn-steps : (steps : List Step) (p : S) (left : Reading) → GoesOn act p (behind steps left) (acted act steps p) left
   GoesOn-steps steps p left = record { ran = acted_all steps p left.steps; ending = refl }
     where
       acted_all : (steps : List Step) (p : S) (rest : List Step) → acted act rest (acted act steps p) ≡ acted act (steps ++ rest) p

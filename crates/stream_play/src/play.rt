@@ -1,6 +1,6 @@
 //! A stream, handed to a player as it is read.
 
-ghost use Rattle.std.specs.Prelude.{◌≡◌, ◌+◌, ◌*◌, ◌≤◌, drop, length, take, IfErr, IfNone, IfOk, IfSome, IsTrue, None, Some};
+ghost use Rattle.std.specs.Prelude.{◌≡◌, ◌+◌, ◌*◌, ◌≤◌, drop, length, take, IfErr, IfNone, IfOk, IfSome, IsTrue, None, Some, true};
 ghost use Rattle.capture_file.specs.Readers.{fresh, front_record, resumed};
 ghost use Rattle.capture_file.specs.Records.{StepFits};
 ghost use Rattle.capture_file.specs.declared.Step.TheVariants as Step;
@@ -123,8 +123,23 @@ fn hand_mixed<P: Player>(player: &mut P, reader: &mut StepReader, piece: &[u8]) 
     at
 }
 
-/// Hands the pairs of records behind so many bytes of a piece to the player, and answers how many bytes they have. The bytes before them
-/// begin with a push to the queue. Pairs of this queue are taken at once, and others one by one.
+/// Hands data pushes that lie whole at the front of a piece, with no turns between them, to a player that loses them, and answers how many
+/// bytes they have.
+#[inline(always)]
+fn hand_lost<P: Player>(player: &mut P, reader: &mut StepReader, piece: &[u8]) -> usize
+    requires form { ReadsForm P.has_slots reader.old }
+    requires loses { P.loses player.old ≡ true }
+    ensures form { ReadsForm P.has_slots reader.new }
+    ensures handed { HandedPart P.act result player.old reader.old piece.now player.new reader.new }
+{
+    let (count, lost) = reader.take_pushes(piece);
+    player.push_lost(lost);
+    PUSH * count
+}
+
+/// Hands the records behind so many bytes of a piece to the player, and answers how many bytes they have. The bytes before them
+/// begin with a push to the queue. Pairs of this queue are taken at once, and others one by one. Where the push had no turns behind it,
+/// pushes that are lost are taken at once.
 #[inline(always)]
 fn hand_behind<P: Player>(
     player: &mut P,
@@ -143,6 +158,8 @@ fn hand_behind<P: Player>(
         hand_pairs(player, reader, queue, &piece[used..], dwords)
     } else if used > PUSH {
         hand_mixed(player, reader, &piece[used..])
+    } else if player.loses_all() {
+        hand_lost(player, reader, &piece[used..])
     } else {
         0
     }

@@ -3,10 +3,13 @@
 ghost use Rattle.std.specs.Prelude.{◌≡◌, ◌*◌, ◌<◌, ◌≤◌, Bool, List, false, length, true, ℕ};
 ghost use Rattle.capture_file.specs.declared.Step.TheVariants as Step;
 ghost use Rattle.capture_file.specs.declared.Step.{Step as StepOf};
+ghost use Rattle.fifo_model.specs.declared.Entry.{Entry as EntryOf};
 ghost use Rattle.fifo_model.specs.declared.Queue.{Queue as QueueOf};
 ghost use Rattle.capture_file.specs.Readers.{fresh};
 ghost use Rattle.capture_file.specs.Records.{StepFits};
 ghost use Rattle.capture_file.specs.Pairs.{pair_steps};
+ghost use Rattle.capture_file.specs.Pushes.{counts_of, push_steps};
+ghost use Rattle.dma_machine.specs.Lost.{loses_all};
 ghost use Rattle.dma_machine.specs.Plain.{AreRun, plain_room};
 ghost use Rattle.slot_chain.specs.Plays.{chain_act};
 ghost use Rattle.machine_watch.specs.Watches.{run_room};
@@ -28,6 +31,8 @@ pub trait Player {
     ghost has_slots: { Bool };
 
     ghost room: { QueueOf → Self → ℕ };
+
+    ghost loses: { Self → Bool };
 
     /// A reader of its streams: with patches where it has slots, else of the other forms.
     fn reader(limit: u64) -> StepReader
@@ -68,6 +73,17 @@ pub trait Player {
         requires plain { (pairs : List (ℕ × ℕ)) × AreRun dwords.now turns pairs }
         ensures { (pairs : List (ℕ × ℕ)) → AreRun dwords.now turns pairs → self.new ≡ acted act (pair_steps queue pairs) self.old };
 
+    /// Whether each data push is lost, so that `push_lost` may take it.
+    fn loses_all(&self) -> bool
+        ensures { result ≡ loses self.now };
+
+    /// Takes so many data entries for queues 1, 2 and 3, each of which is lost. What they are and how they follow one another doesn't
+    /// matter.
+    fn push_lost(&mut self, lost: [usize; 3])
+        requires loses { loses self.old ≡ true }
+        requires counted { (entries : List (QueueOf × EntryOf)) × (counts_of entries ≡ lost) }
+        ensures { (entries : List (QueueOf × EntryOf)) → counts_of entries ≡ lost → self.new ≡ acted act (push_steps entries) self.old };
+
     /// Takes a write of the host to a register.
     fn host(&mut self, write: HostWrite)
         requires { StepFits (Step.Host write) }
@@ -85,6 +101,8 @@ impl<R: Ram, W: Watch> Player for Watched<R, W> {
     ghost has_slots = { false };
 
     ghost room = { λ queue w. run_room W.LETS_FALL queue w.machine };
+
+    ghost loses = { λ w. loses_all w.machine };
 
     fn reader(limit: u64) -> StepReader {
         StepReader::new(limit)
@@ -108,6 +126,16 @@ impl<R: Ram, W: Watch> Player for Watched<R, W> {
     #[inline(always)]
     fn push_plain(&mut self, queue: Queue, dwords: &[u8], turns: u32) {
         Watched::push_plain(self, queue, dwords, turns);
+    }
+
+    #[inline(always)]
+    fn loses_all(&self) -> bool {
+        Watched::loses_all(self)
+    }
+
+    #[inline(always)]
+    fn push_lost(&mut self, lost: [usize; 3]) {
+        Watched::push_lost(self, lost);
     }
 
     #[inline(always)]
@@ -136,6 +164,8 @@ impl<R: Ram> Player for DoubleBuffer<R> {
 
     ghost room = { λ queue b. plain_room queue b.live.machine };
 
+    ghost loses = { λ b. loses_all b.live.machine };
+
     fn reader(limit: u64) -> StepReader {
         StepReader::chained(limit)
     }
@@ -158,6 +188,16 @@ impl<R: Ram> Player for DoubleBuffer<R> {
     #[inline(always)]
     fn push_plain(&mut self, queue: Queue, dwords: &[u8], turns: u32) {
         DoubleBuffer::push_plain(self, queue, dwords, turns);
+    }
+
+    #[inline(always)]
+    fn loses_all(&self) -> bool {
+        DoubleBuffer::loses_all(self)
+    }
+
+    #[inline(always)]
+    fn push_lost(&mut self, lost: [usize; 3]) {
+        DoubleBuffer::push_lost(self, lost);
     }
 
     #[inline(always)]
